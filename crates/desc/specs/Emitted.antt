@@ -1,0 +1,68 @@
+-- What is proved of document 01's words: the fields that they have, and what decoding gives back.
+use Prim.Native.Nat.{ℕ, _+_, _%_, _^_, _<_}
+use mathlib.Core.Path.{_≡_}
+use mathlib.Core.Bool.{Bool, true, false}
+use Rattle.p2m.specs.declared.Perm.{Perm}
+use Rattle.p2m.specs.declared.Perm.the-variants.{Ro, Rw}
+use Rattle.desc.specs.declared.AccessXn.{AccessXn}
+use Rattle.desc.specs.declared.DecodedLeaf.{DecodedLeaf}
+use Rattle.desc.specs.declared.DecodedLeaf.the-variants.{Leaf}
+use Rattle.desc.specs.declared.DecodedTable.the-variants.{At}
+use Rattle.desc.specs.declared.DecodedBlock.the-variants.{Device}
+use Rattle.desc.specs.declared.MemoryType.{MemoryType}
+use Rattle.desc.specs.declared.MemoryType.the-variants.{NormalWbIsh, DeviceNGnRnE}
+use Rattle.desc.specs.Decoded.{s2apOf, decodedPage, decodedBlock, decodedTable, decodedDevice}
+use Rattle.desc.specs.Descriptor.{Fields, fieldsOf, joined, blockType, tableType, pageType}
+use Rattle.desc.specs.Memory.{memAttrOf, shOf}
+use Rattle.desc.specs.Words.{tableWord, pageWord, blockWord, imageWord, deviceWord, leafAccessXn}
+
+-- read-only and executable, as the image is
+abbrev pub readExecute : AccessXn
+readExecute = record { access = Ro; xn = false }
+
+-- read, write and execute never, as a device is
+abbrev pub readWrite : AccessXn
+readWrite = record { access = Rw; xn = true }
+
+abbrev pub bit : Bool → ℕ
+bit true = 1
+bit false = 0
+
+abbrev pub tableFields : Fields
+tableFields = record { kind = tableType; mem = 0; access = 0; share = 0; flag = 0; never = 0 }
+
+-- a leaf has its access flag set
+abbrev pub leafFields : ℕ → MemoryType → AccessXn → Fields
+leafFields k t a =
+    record { kind = k; mem = memAttrOf t; access = s2apOf (a .access); share = shOf t; flag = 1; never = bit (a .xn) }
+
+-- the word has these fields, and no other bit
+abbrev pub Exactly : ℕ → Fields → Type 0
+Exactly w f = (fieldsOf w ≡ f) × (joined f ≡ w)
+
+-- each word of the list has exactly the fields that its name says
+pub record WordFields : Type 0 where
+  pub table : Exactly tableWord tableFields
+  pub page : (p : Perm) → Exactly (pageWord p) (leafFields pageType NormalWbIsh (leafAccessXn p false))
+  pub block : (p : Perm) (exempt : Bool) → Exactly (blockWord p exempt) (leafFields blockType NormalWbIsh (leafAccessXn p exempt))
+  pub image : Exactly imageWord (leafFields blockType NormalWbIsh readExecute)
+  pub device : Exactly deviceWord (leafFields blockType DeviceNGnRnE readWrite)
+
+-- an output address that a descriptor can hold, aligned to 2 ^ k
+pub record Output (k pa : ℕ) : Type 0 where
+  pub below : pa < 2 ^ 48
+  pub aligned : pa % 2 ^ k ≡ 0
+
+abbrev pub leafWith : ℕ → AccessXn → DecodedLeaf
+leafWith pa a = Leaf (record { pa = pa; perm = a .access; xn = a .xn })
+
+-- decoding an emitted word gives back its address, access and execute bit
+pub record EmittedDecodes : Type 0 where
+  pub table : (pa : ℕ) → Output 12 pa → decodedTable (pa + tableWord) ≡ At pa
+  pub page : (pa : ℕ) (p : Perm) → Output 12 pa → decodedPage (pa + pageWord p) ≡ leafWith pa (leafAccessXn p false)
+  pub block :
+      (pa : ℕ) (p : Perm) (exempt : Bool) →
+      Output 21 pa → decodedBlock (pa + blockWord p exempt) ≡ leafWith pa (leafAccessXn p exempt)
+  pub image : (pa : ℕ) → Output 21 pa → decodedBlock (pa + imageWord) ≡ leafWith pa readExecute
+  pub device : (pa : ℕ) → Output 21 pa → decodedDevice (pa + deviceWord) ≡ Device (record { pa = pa; xn = true })
+  pub device-leaf : (pa : ℕ) → Output 21 pa → decodedBlock (pa + deviceWord) ≡ leafWith pa readWrite

@@ -1,0 +1,5 @@
+pub mod Decoded
+pub mod Descriptor
+pub mod Emitted
+pub mod Memory
+pub mod Words

@@ -1,0 +1,1 @@
+// Bit fields, look-up by code: definitions alone.

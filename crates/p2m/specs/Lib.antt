@@ -1,0 +1,3 @@
+pub mod Frame
+pub mod Leaf
+pub mod Records
