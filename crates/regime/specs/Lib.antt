@@ -1,0 +1,3 @@
+pub mod Regime
+pub mod Vtcr
+pub mod Vttbr

@@ -1,0 +1,447 @@
+// The stage-2 translation regime (hv-s2's arm64.rs): the parameters that a walker reads the tables under, as VTCR_EL2 encodes them,
+// and VTTBR_EL2.
+ghost use mathlib.Core.Path.{_≡_};
+ghost use Prim.Native.Nat.{_<_};
+ghost use Rattle.regime.specs.Regime.{pageBits, levelBits, number, span, below, vmids, validRegime, t0szOf, tableAlign};
+ghost use Rattle.regime.specs.Vtcr.{tg0, granuleNamed, sl0, levelNamed, ps, sizeNamed, vs, vmidBitsNamed, fieldsOf, InRange, joined, regimeNamed, vtcrOf, decodedVtcr};
+ghost use Rattle.regime.specs.Vttbr.{vttbrOf, baddr, vmidOf};
+
+// The translation granule: the size of a page.
+pub enum Granule {
+    K4,
+    K16,
+    K64,
+}
+
+pub enum GranuleNamed {
+    Granule(Granule),
+    Reserved,
+}
+
+// The level that the walk starts at. Level 3 holds the pages.
+pub enum StartLevel {
+    L0,
+    L1,
+    L2,
+    L3,
+}
+
+pub enum LevelNamed {
+    Level(StartLevel),
+    Reserved,
+}
+
+// The output address size in bits.
+pub enum PaSize {
+    B32,
+    B36,
+    B40,
+    B42,
+    B44,
+    B48,
+    B52,
+}
+
+pub enum SizeNamed {
+    Size(PaSize),
+    Reserved,
+}
+
+// The width of a VMID. VTCR_EL2 has it and the tables do not, so it is no part of the regime.
+pub enum VmidBits {
+    B8,
+    B16,
+}
+
+pub struct Stage2Regime {
+    pub granule: Granule,
+    // The input address size in bits.
+    pub ipa_bits: u32,
+    pub start_level: StartLevel,
+    pub pa_size: PaSize,
+    // SH0, IRGN0 and ORGN0: the attributes of the walk's own fetches.
+    pub walk_shareability: u64,
+    pub walk_inner: u64,
+    pub walk_outer: u64,
+}
+
+// The fields of VTCR_EL2.
+struct VtcrFields {
+    t0sz: u64,
+    sl0: u64,
+    irgn0: u64,
+    orgn0: u64,
+    sh0: u64,
+    tg0: u64,
+    ps: u64,
+    vs: u64,
+    res1: u64,
+    ds: u64,
+}
+
+// A number that a regime determines. Undefined is where the Rust's sum or shift has no answer.
+pub enum Determined {
+    Value(u64),
+    Undefined,
+}
+
+pub enum Vtcr {
+    Value(u64),
+    Invalid,
+}
+
+pub enum DecodedVtcr {
+    Regime(Stage2Regime, VmidBits),
+    Nothing,
+}
+
+// The regime that is run: 4 KB granule, 39-bit input, start level 1, 40-bit output.
+pub const BALEEN_STAGE2: Stage2Regime = Stage2Regime {
+    granule: Granule::K4,
+    ipa_bits: 39,
+    start_level: StartLevel::L1,
+    pa_size: PaSize::B40,
+    walk_shareability: 0b11,
+    walk_inner: 0b01,
+    walk_outer: 0b01,
+};
+
+pub const BALEEN_VMID_BITS: VmidBits = VmidBits::B8;
+
+impl Granule {
+    // Bits of the address that are the offset in a page.
+    pub fn page_bits(self) -> u32
+        ensures { λ r. ⌜ r ≡ pageBits self ⌝ }
+    {
+        match self {
+            Granule::K4 => 12,
+            Granule::K16 => 14,
+            Granule::K64 => 16,
+        }
+    }
+
+    // Bits of the address that one level resolves: a table is a page of 8-byte words.
+    pub fn level_bits(self) -> u32
+        ensures { λ r. ⌜ r ≡ levelBits self ⌝ }
+    {
+        self.page_bits() - 3
+    }
+
+    pub fn tg0(self) -> u64
+        ensures { λ r. ⌜ r ≡ tg0 self ⌝ }
+    {
+        match self {
+            Granule::K4 => 0b00,
+            Granule::K64 => 0b01,
+            Granule::K16 => 0b10,
+        }
+    }
+
+    pub fn from_tg0(v: u64) -> GranuleNamed
+        ensures { λ r. ⌜ r ≡ granuleNamed v ⌝ }
+    {
+        match v {
+            0b00 => GranuleNamed::Granule(Granule::K4),
+            0b01 => GranuleNamed::Granule(Granule::K64),
+            0b10 => GranuleNamed::Granule(Granule::K16),
+            _ => GranuleNamed::Reserved,
+        }
+    }
+}
+
+impl StartLevel {
+    pub fn number(self) -> u32
+        ensures { λ r. ⌜ r ≡ number self ⌝ }
+    {
+        match self {
+            StartLevel::L0 => 0,
+            StartLevel::L1 => 1,
+            StartLevel::L2 => 2,
+            StartLevel::L3 => 3,
+        }
+    }
+
+    pub fn sl0(self) -> u64
+        ensures { λ r. ⌜ r ≡ sl0 self ⌝ }
+    {
+        match self {
+            StartLevel::L2 => 0b00,
+            StartLevel::L1 => 0b01,
+            StartLevel::L0 => 0b10,
+            StartLevel::L3 => 0b11,
+        }
+    }
+
+    pub fn from_sl0(v: u64) -> LevelNamed
+        ensures { λ r. ⌜ r ≡ levelNamed v ⌝ }
+    {
+        match v {
+            0b00 => LevelNamed::Level(StartLevel::L2),
+            0b01 => LevelNamed::Level(StartLevel::L1),
+            0b10 => LevelNamed::Level(StartLevel::L0),
+            0b11 => LevelNamed::Level(StartLevel::L3),
+            _ => LevelNamed::Reserved,
+        }
+    }
+
+    // Bits of the address that a walk from this level resolves.
+    pub fn span(self, granule: Granule) -> u32
+        ensures { λ r. ⌜ r ≡ span self granule ⌝ }
+    {
+        granule.page_bits() + (4 - self.number()) * granule.level_bits()
+    }
+}
+
+impl PaSize {
+    pub fn ps(self) -> u64
+        ensures { λ r. ⌜ r ≡ ps self ⌝ }
+    {
+        match self {
+            PaSize::B32 => 0b000,
+            PaSize::B36 => 0b001,
+            PaSize::B40 => 0b010,
+            PaSize::B42 => 0b011,
+            PaSize::B44 => 0b100,
+            PaSize::B48 => 0b101,
+            PaSize::B52 => 0b110,
+        }
+    }
+
+    pub fn from_ps(v: u64) -> SizeNamed
+        ensures { λ r. ⌜ r ≡ sizeNamed v ⌝ }
+    {
+        match v {
+            0b000 => SizeNamed::Size(PaSize::B32),
+            0b001 => SizeNamed::Size(PaSize::B36),
+            0b010 => SizeNamed::Size(PaSize::B40),
+            0b011 => SizeNamed::Size(PaSize::B42),
+            0b100 => SizeNamed::Size(PaSize::B44),
+            0b101 => SizeNamed::Size(PaSize::B48),
+            0b110 => SizeNamed::Size(PaSize::B52),
+            _ => SizeNamed::Reserved,
+        }
+    }
+}
+
+impl VmidBits {
+    pub fn vs(self) -> u64
+        ensures { λ r. ⌜ r ≡ vs self ⌝ }
+    {
+        match self {
+            VmidBits::B8 => 0,
+            VmidBits::B16 => 1,
+        }
+    }
+
+    // VS has one bit.
+    fn from_vs(v: u64) -> VmidBits
+        ensures { λ r. ⌜ r ≡ vmidBitsNamed v ⌝ }
+    {
+        if v == 0 { VmidBits::B8 } else { VmidBits::B16 }
+    }
+
+    // How many VMIDs there are.
+    pub fn count(self) -> u32
+        ensures { λ r. ⌜ r ≡ vmids self ⌝ }
+    {
+        match self {
+            VmidBits::B8 => 0x100,
+            VmidBits::B16 => 0x1_0000,
+        }
+    }
+}
+
+impl VtcrFields {
+    fn of(v: u64) -> VtcrFields
+        ensures { λ r. ⌜ r ≡ fieldsOf v ⌝ }
+    {
+        VtcrFields {
+            t0sz: v % 0x40,
+            sl0: v / 0x40 % 4,
+            irgn0: v / 0x100 % 4,
+            orgn0: v / 0x400 % 4,
+            sh0: v / 0x1000 % 4,
+            tg0: v / 0x4000 % 4,
+            ps: v / 0x1_0000 % 8,
+            vs: v / 0x8_0000 % 2,
+            res1: v / 0x8000_0000 % 2,
+            ds: v / 0x1_0000_0000 % 2,
+        }
+    }
+
+    fn join(self) -> u64
+        requires { ⌜ InRange self ⌝ }
+        ensures { λ r. ⌜ r ≡ joined self ⌝ }
+    {
+        self.t0sz
+            + self.sl0 * 0x40
+            + self.irgn0 * 0x100
+            + self.orgn0 * 0x400
+            + self.sh0 * 0x1000
+            + self.tg0 * 0x4000
+            + self.ps * 0x1_0000
+            + self.vs * 0x8_0000
+            + self.res1 * 0x8000_0000
+            + self.ds * 0x1_0000_0000
+    }
+
+    // The regime that the fields name, if none is reserved and it is valid.
+    fn regime(self) -> DecodedVtcr
+        requires { ⌜ self .t0sz < 64 ⌝ }
+        ensures { λ r. ⌜ r ≡ regimeNamed self ⌝ }
+    {
+        let GranuleNamed::Granule(granule) = Granule::from_tg0(self.tg0) else {
+            return DecodedVtcr::Nothing;
+        };
+        let LevelNamed::Level(start_level) = StartLevel::from_sl0(self.sl0) else {
+            return DecodedVtcr::Nothing;
+        };
+        let SizeNamed::Size(pa_size) = PaSize::from_ps(self.ps) else {
+            return DecodedVtcr::Nothing;
+        };
+        let regime = Stage2Regime {
+            granule,
+            ipa_bits: 64 - self.t0sz as u32,
+            start_level,
+            pa_size,
+            walk_shareability: self.sh0,
+            walk_inner: self.irgn0,
+            walk_outer: self.orgn0,
+        };
+        if regime.valid() {
+            DecodedVtcr::Regime(regime, VmidBits::from_vs(self.vs))
+        } else {
+            DecodedVtcr::Nothing
+        }
+    }
+}
+
+impl Stage2Regime {
+    // Whether a walker can be configured so. One table is one page, so the start level resolves the input and the next does not.
+    pub fn valid(self) -> bool
+        ensures { λ r. ⌜ r ≡ validRegime self ⌝ }
+    {
+        let granule = self.granule;
+        let start_level = self.start_level;
+        let ipa_bits = self.ipa_bits;
+        if 48 < ipa_bits {
+            return false;
+        }
+        if ipa_bits <= granule.page_bits() {
+            return false;
+        }
+        if start_level.span(granule) < ipa_bits {
+            return false;
+        }
+        if ipa_bits <= self.below() {
+            return false;
+        }
+        if 0b11 < self.walk_shareability {
+            return false;
+        }
+        if 0b11 < self.walk_inner {
+            return false;
+        }
+        self.walk_outer <= 0b11
+    }
+
+    // Bits of the address that the walk resolves below its start level.
+    fn below(self) -> u32
+        ensures { λ r. ⌜ r ≡ below self ⌝ }
+    {
+        let granule = self.granule;
+        let start_level = self.start_level;
+        start_level.span(granule) - granule.level_bits()
+    }
+
+    // The input size, as a shrink from 64 bits.
+    pub fn t0sz(self) -> Determined
+        ensures { λ r. ⌜ r ≡ t0szOf self ⌝ }
+    {
+        let ipa_bits = self.ipa_bits;
+        if 64 < ipa_bits {
+            return Determined::Undefined;
+        }
+        Determined::Value(64 - ipa_bits as u64)
+    }
+
+    // The alignment of the start level's table: an address that lacks it is truncated, not refused.
+    pub fn table_align(self) -> Determined
+        ensures { λ r. ⌜ r ≡ tableAlign self ⌝ }
+    {
+        let ipa_bits = self.ipa_bits;
+        let below = self.below();
+        if ipa_bits < below {
+            return Determined::Undefined;
+        }
+        let index_bits = ipa_bits - below;
+        if 61 <= index_bits {
+            return Determined::Undefined;
+        }
+        let size = 8 << index_bits;
+        if size < 64 {
+            return Determined::Value(64);
+        }
+        Determined::Value(size)
+    }
+}
+
+// The VTCR_EL2 value of a regime: DS, HA and HD stay clear.
+pub fn vtcr_el2(regime: Stage2Regime, vmid_bits: VmidBits) -> Vtcr
+    ensures { λ r. ⌜ r ≡ vtcrOf regime «vmid_bits» ⌝ }
+{
+    if !regime.valid() {
+        return Vtcr::Invalid;
+    }
+    let granule = regime.granule;
+    let start_level = regime.start_level;
+    let pa_size = regime.pa_size;
+    let fields = VtcrFields {
+        t0sz: 64 - regime.ipa_bits as u64,
+        sl0: start_level.sl0(),
+        irgn0: regime.walk_inner,
+        orgn0: regime.walk_outer,
+        sh0: regime.walk_shareability,
+        tg0: granule.tg0(),
+        ps: pa_size.ps(),
+        vs: vmid_bits.vs(),
+        res1: 1,
+        ds: 0,
+    };
+    Vtcr::Value(fields.join())
+}
+
+// The regime that a VTCR_EL2 value names, if the encoder could have made it.
+pub fn decode_vtcr_el2(v: u64) -> DecodedVtcr
+    ensures { λ r. ⌜ r ≡ decodedVtcr v ⌝ }
+{
+    let fields = VtcrFields::of(v);
+    if fields.res1 != 1 {
+        return DecodedVtcr::Nothing;
+    }
+    if fields.ds != 0 {
+        return DecodedVtcr::Nothing;
+    }
+    fields.regime()
+}
+
+// The VTTBR_EL2 value for a table set: the level 1 table's address with the VMID above it.
+pub fn vttbr(l1_pa: u64, vmid: u64) -> u64
+    ensures { λ r. ⌜ r ≡ vttbrOf «l1_pa» vmid ⌝ }
+{
+    l1_pa | (vmid << 48)
+}
+
+// The table that a VTTBR_EL2 value names.
+pub fn vttbr_table(vttbr: u64) -> u64
+    ensures { λ r. ⌜ r ≡ baddr vttbr ⌝ }
+{
+    vttbr % 0x1_0000_0000_0000
+}
+
+// The VMID that the regime tags with.
+pub fn vttbr_vmid(vttbr: u64, bits: VmidBits) -> u16
+    ensures { λ r. ⌜ r ≡ vmidOf vttbr bits ⌝ }
+{
+    (vttbr / 0x1_0000_0000_0000 % bits.count() as u64) as u16
+}

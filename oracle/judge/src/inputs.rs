@@ -1,0 +1,96 @@
+//! The words that both sides are asked about.
+
+/// The eight words of a call, and the eight of its answer.
+pub type Words = [u64; 8];
+
+pub type Inputs = Box<dyn Iterator<Item = Words>>;
+
+/// Fills up with zeros: a word that is not used is zero.
+pub fn words<const N: usize>(given: [u64; N]) -> Words {
+    std::array::from_fn(|i| given.get(i).copied().unwrap_or(0))
+}
+
+/// The input of a function of one word.
+pub fn one(word: u64) -> Words {
+    words([word])
+}
+
+/// Splitmix64, from a fixed seed: every run asks the same.
+pub struct Random(pub u64);
+
+impl Random {
+    pub fn word(&mut self) -> u64 {
+        self.0 = self.0.wrapping_add(0x9e37_79b9_7f4a_7c15);
+        let z = (self.0 ^ (self.0 >> 30)).wrapping_mul(0xbf58_476d_1ce4_e5b9);
+        let z = (z ^ (z >> 27)).wrapping_mul(0x94d0_49bb_1331_11eb);
+        z ^ (z >> 31)
+    }
+
+    pub fn below(&mut self, bound: u64) -> u64 {
+        self.word() % bound
+    }
+
+    pub fn pick(&mut self, from: &[u64]) -> u64 {
+        from[self.below(from.len() as u64) as usize]
+    }
+
+    /// A word in which about one bit of eight is set.
+    pub fn sparse(&mut self) -> u64 {
+        self.word() & self.word() & self.word()
+    }
+}
+
+/// As many inputs as asked for, each made from the generator.
+pub fn random(
+    seed: u64,
+    count: u64,
+    make: impl Fn(&mut Random) -> Words + 'static,
+) -> impl Iterator<Item = Words> {
+    let mut random = Random(seed);
+    (0..count).map(move |_| make(&mut random))
+}
+
+/// Every input whose words are taken from the eight lists.
+pub fn every(choices: [Vec<u64>; 8]) -> impl Iterator<Item = Words> {
+    let count = choices.iter().map(|list| list.len() as u64).product();
+    (0..count).map(move |number: u64| {
+        let mut rest = number;
+        std::array::from_fn(|i| {
+            let length = choices[i].len() as u64;
+            let digit = rest % length;
+            rest /= length;
+            choices[i][digit as usize]
+        })
+    })
+}
+
+/// The word with each of its bits changed.
+pub fn changed(word: u64) -> impl Iterator<Item = u64> {
+    (0..64).map(move |bit| word ^ (1 << bit))
+}
+
+/// The word with every two of its bits changed.
+pub fn twice_changed(word: u64) -> impl Iterator<Item = u64> {
+    (1..64).flat_map(move |high| (0..high).map(move |low| word ^ (1 << high) ^ (1 << low)))
+}
+
+/// Codes at the edge of a small enumeration, also with bits above the low 32.
+pub fn few_codes() -> impl Iterator<Item = u64> {
+    let wide = (0..=6).map(|code| code + (1 << 32));
+    (0..=8).chain([255, 256]).chain(wide).chain([u64::MAX])
+}
+
+/// All codes of a byte and those around every power of two above.
+pub fn many_codes() -> impl Iterator<Item = u64> {
+    let around = (8..64).flat_map(|bit| (0..9).map(move |n| (1 << bit) - 1 + n));
+    (0..=255).chain(around).chain([u64::MAX])
+}
+
+/// Random words, half of them with a small low half.
+pub fn random_codes(seed: u64, count: u64) -> impl Iterator<Item = u64> {
+    let mut random = Random(seed);
+    (0..count).map(move |_| match random.word() {
+        word if word >> 63 == 0 => word << 32 | word & 7,
+        word => word,
+    })
+}

@@ -1,0 +1,255 @@
+//! p2m.rs: the owner and type of a frame, with the span that leafmap.rs reads from them, table
+//! levels and page types.
+
+use hv_core::p2m::{DomId, Mfn, PageType, PtLevel, System};
+use hv_s2::leafmap::{span_of_table, Span};
+
+use crate::function::{Answer, Fault, Function, Layer};
+use crate::inputs::{every, few_codes, many_codes, one, random, random_codes, words, Words};
+use crate::port;
+
+const FRAME: u32 = 0;
+const LEVEL: u32 = 1;
+const PAGE_TYPE: u32 = 2;
+
+/// Every `DomId` is a domain. The first number past them stands for nobody.
+const DOMAINS: usize = 1 << 16;
+const NOBODY: u64 = 1 << 16;
+
+pub const LAYER: Layer = Layer {
+    functions: &[
+        Function {
+            name: "frame",
+            op: FRAME,
+            original: frame,
+            boundary: || Box::new(frame_boundary().filter(representable)),
+            sweep: |scale| Box::new(frames(scale).filter(representable)),
+            answers: FRAME_ANSWERS,
+            recorded: true,
+        },
+        Function {
+            name: "frame, typed but unowned",
+            op: FRAME,
+            original: unowned_frame,
+            boundary: || Box::new(frame_boundary().filter(|x| !representable(x))),
+            sweep: |scale| Box::new(frames(scale).filter(|x| !representable(x))),
+            answers: FRAME_ANSWERS,
+            recorded: false,
+        },
+        Function {
+            name: "level",
+            op: LEVEL,
+            original: level,
+            boundary: || Box::new(few_codes().map(one)),
+            sweep: |scale| Box::new(many_codes().chain(random_codes(1, 100_000 * scale)).map(one)),
+            answers: LEVEL_ANSWERS,
+            recorded: true,
+        },
+        Function {
+            name: "page type",
+            op: PAGE_TYPE,
+            original: page_type,
+            boundary: || Box::new(few_codes().map(one)),
+            sweep: |scale| Box::new(many_codes().chain(random_codes(2, 100_000 * scale)).map(one)),
+            answers: LEVEL_ANSWERS,
+            recorded: true,
+        },
+    ],
+    faults: &[
+        Fault {
+            name: "owner-65536-as-domain",
+            slip: "the owner number just past the domains is cut to domain 0",
+            op: FRAME,
+            port: |x| match asked(x) {
+                Some(Row { owner: 65_536, .. }) => with(port::answer(FRAME, x), 0, 0),
+                _ => port::answer(FRAME, x),
+            },
+        },
+        Fault {
+            name: "owner-65535-as-nobody",
+            slip: "the last domain is taken for nobody",
+            op: FRAME,
+            port: |x| match port::answer(FRAME, x) {
+                answer if answer[0] == 65_535 => with(answer, 0, NOBODY),
+                answer => answer,
+            },
+        },
+        Fault {
+            name: "kind-4-has-a-span",
+            slip: "a leaf of an L3 table is taken for a super page",
+            op: FRAME,
+            port: |x| match port::answer(FRAME, x) {
+                answer if answer[1] == 4 => with(answer, 2, 2),
+                answer => answer,
+            },
+        },
+        Fault {
+            name: "list-one-longer",
+            slip: "the frame just past the list is read as a row of it",
+            op: FRAME,
+            port: |x| port::answer(FRAME, &with(*x, 6, x[6].saturating_add(1))),
+        },
+        Fault {
+            name: "interior-entry-under-l1",
+            slip: "an interior entry of an L1 table maps a writable page",
+            op: LEVEL,
+            port: |x| match port::answer(LEVEL, x) {
+                answer if answer[0] == 2 => with(answer, 1, 1),
+                answer => answer,
+            },
+        },
+        Fault {
+            name: "writable-has-a-level",
+            slip: "the level of a writable page is L1",
+            op: PAGE_TYPE,
+            port: |x| port::answer(PAGE_TYPE, &one(if x[0] == 1 { 2 } else { x[0] })),
+        },
+    ],
+};
+
+const FRAME_ANSWERS: &[Answer] = &[
+    ("domain", |answer| answer[0] < NOBODY),
+    ("nobody", |answer| answer[0] == NOBODY),
+    ("base", |answer| answer[2] == 1),
+    ("super", |answer| answer[2] == 2),
+    ("no span", |answer| answer[2] == 0),
+];
+
+const LEVEL_ANSWERS: &[Answer] = &[
+    ("none", |answer| answer[0] == 0),
+    ("L1", |answer| answer[0] == 2),
+    ("L2", |answer| answer[0] == 3),
+    ("L3", |answer| answer[0] == 4),
+    ("L4", |answer| answer[0] == 5),
+];
+
+/// A frame as the port has it: an owner number and a kind.
+#[derive(Clone, Copy)]
+struct Row {
+    owner: u32,
+    kind: u32,
+}
+
+impl Row {
+    fn domain(self) -> Option<DomId> {
+        self.owner.try_into().ok()
+    }
+}
+
+fn rows(x: &Words) -> Vec<Row> {
+    let count = x[6].min(3) as usize;
+    let row = |row: &[u64]| Row {
+        owner: row[0] as u32,
+        kind: row[1] as u32,
+    };
+    x[..6].chunks(2).take(count).map(row).collect()
+}
+
+/// The row of the frame that is asked about.
+fn asked(x: &Words) -> Option<Row> {
+    rows(x).get(x[7] as u32 as usize).copied()
+}
+
+/// The original types a frame for its owner only.
+fn representable(x: &Words) -> bool {
+    rows(x)
+        .iter()
+        .all(|row| row.domain().is_some() || type_of(row.kind).is_none())
+}
+
+fn frame(x: &Words) -> Words {
+    let system = system(&rows(x));
+    let mfn = x[7] as Mfn;
+    let span = match span_of_table(&system, mfn) {
+        Some(Span::Base) => 1,
+        Some(Span::Super) => 2,
+        None => 0,
+    };
+    words([owner(&system, mfn), kind(x), span])
+}
+
+/// Only the owner is the original's: the span goes by the row's kind, as it does for owned frames.
+fn unowned_frame(x: &Words) -> Words {
+    let span = match kind(x) {
+        2 => 1,
+        3 => 2,
+        _ => 0,
+    };
+    words([owner(&system(&rows(x)), x[7] as Mfn), kind(x), span])
+}
+
+fn owner(system: &System, mfn: Mfn) -> u64 {
+    system.owner_of(mfn).map_or(NOBODY, u64::from)
+}
+
+fn kind(x: &Words) -> u64 {
+    asked(x).map_or(0, |row| row.kind.into())
+}
+
+fn system(rows: &[Row]) -> System {
+    let mut system = System::new(DOMAINS, rows.len());
+    for (mfn, row) in rows.iter().enumerate() {
+        if let Some(owner) = row.domain() {
+            allocate(&mut system, owner, mfn as Mfn, row.kind);
+        }
+    }
+    system
+}
+
+fn allocate(system: &mut System, owner: DomId, mfn: Mfn, kind: u32) {
+    system.allocate(owner, mfn).expect("the frame is free");
+    match type_of(kind) {
+        Some(PageType::PageTable(level)) => system.pin(owner, mfn, level),
+        Some(PageType::Writable) => system.get_type(mfn, PageType::Writable),
+        None => Ok(()),
+    }
+    .expect("the frame has no type yet");
+}
+
+fn level(x: &Words) -> Words {
+    let Some(level) = level_of(x[0] as u32) else {
+        return words([]);
+    };
+    words([
+        kind_of(level),
+        level.interior_child_type().map_or(0, code_of),
+    ])
+}
+
+fn page_type(x: &Words) -> Words {
+    let level = type_of(x[0] as u32).and_then(PageType::level);
+    words([level.map_or(0, kind_of)])
+}
+
+fn level_of(kind: u32) -> Option<PtLevel> {
+    match kind {
+        2 => Some(PtLevel::L1),
+        3 => Some(PtLevel::L2),
+        4 => Some(PtLevel::L3),
+        5 => Some(PtLevel::L4),
+        _ => None,
+    }
+}
+
+fn kind_of(level: PtLevel) -> u64 {
+    match level {
+        PtLevel::L1 => 2,
+        PtLevel::L2 => 3,
+        PtLevel::L3 => 4,
+        PtLevel::L4 => 5,
+    }
+}
+
+fn type_of(code: u32) -> Option<PageType> {
+    match code {
+        1 => Some(PageType::Writable),
+        _ => level_of(code).map(PageType::PageTable),
+    }
+}
+
+fn code_of(page_type: PageType) -> u64 {
+    match page_type {
+        PageType::Writable => 1,
+        PageType::PageTable(level) => kind_of(level),
+    }
+}
