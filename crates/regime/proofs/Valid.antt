@@ -1,10 +1,14 @@
--- What a valid regime's test says, as facts.
+-- What a valid regime's test says, as facts, and that its fields fit VTCR_EL2.
 use mathlib.Core.Path.{_≡_, refl}
 use mathlib.Core.Bool.{Bool, true, false, _&&_, false≢true}
 use Prim.Native.Nat.{_≤_, _<_}
+use native.Mathlib.Omega.{arith}
 use borrow.Author.Tests.{leb-true, ltb-true}
 use Rattle.regime.specs.declared.Stage2Regime.{Stage2Regime}
+use Rattle.regime.specs.declared.VmidBits.{VmidBits}
 use Rattle.regime.specs.Regime.{pageBits, validRegime}
+use Rattle.regime.specs.Vtcr.{InRange, fieldsFor}
+use Rattle.regime.proofs.Bounds.{page-range, sl0-range, tg0-range, ps-range, vs-range}
 
 pub record Valid (r : Stage2Regime) : Type 0 where
   pub wide : r .«ipa_bits» ≤ 48
@@ -25,9 +29,27 @@ facts r e =
     let b = both _ _ (h .0) in
     let l = both _ _ (b .0) in
     let p = both _ _ (l .0) in
-    record
-    { wide = leb-true _ _ (p .0)
-    ; page = ltb-true _ _ (p .1)
-    ; shareability = leb-true _ _ (h .1)
-    ; inner = leb-true _ _ (i .1)
-    ; outer = leb-true _ _ (o .1) }
+    record {
+      wide = leb-true _ _ (p .0);
+      page = ltb-true _ _ (p .1);
+      shareability = leb-true _ _ (h .1);
+      inner = leb-true _ _ (i .1);
+      outer = leb-true _ _ (o .1);
+    }
+
+-- the fields of a valid regime fit their places
+pub in-range : (r : Stage2Regime) (b : VmidBits) → Valid r → InRange (fieldsFor r b)
+in-range r b v =
+    let g = page-range (r .granule) in
+    record {
+      t0sz = omega arith;
+      sl0 = sl0-range (r .«start_level»);
+      irgn0 = omega arith;
+      orgn0 = omega arith;
+      sh0 = omega arith;
+      tg0 = tg0-range (r .granule);
+      ps = ps-range (r .«pa_size»);
+      vs = vs-range b;
+      res1 = omega arith;
+      ds = omega arith;
+    }

@@ -1,3 +1,4 @@
 pub mod Regime
+pub mod RoundTrip
 pub mod Vtcr
 pub mod Vttbr

@@ -69,11 +69,12 @@ tableAlign r =
 -- the regime that is run
 abbrev pub baleenStage2 : Stage2Regime
 baleenStage2 =
-    record
-    { granule = K4
-    ; «ipa_bits» = 39
-    ; «start_level» = L1
-    ; «pa_size» = B40
-    ; «walk_shareability» = 0b11
-    ; «walk_inner» = 0b01
-    ; «walk_outer» = 0b01 }
+    record {
+      granule = K4;
+      «ipa_bits» = 39;
+      «start_level» = L1;
+      «pa_size» = B40;
+      «walk_shareability» = 0b11;
+      «walk_inner» = 0b01;
+      «walk_outer» = 0b01;
+    }

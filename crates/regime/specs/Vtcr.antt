@@ -70,17 +70,18 @@ vmidBitsNamed n = pick (eqb n 0) B8 B16
 -- the fields of a value: bit 31 is RES1, and DS selects another descriptor format
 abbrev pub fieldsOf : ℕ → VtcrFields
 fieldsOf v =
-    record
-    { t0sz = bits 5 0 v
-    ; sl0 = bits 7 6 v
-    ; irgn0 = bits 9 8 v
-    ; orgn0 = bits 11 10 v
-    ; sh0 = bits 13 12 v
-    ; tg0 = bits 15 14 v
-    ; ps = bits 18 16 v
-    ; vs = bits 19 19 v
-    ; res1 = bits 31 31 v
-    ; ds = bits 32 32 v }
+    record {
+      t0sz = bits 5 0 v;
+      sl0 = bits 7 6 v;
+      irgn0 = bits 9 8 v;
+      orgn0 = bits 11 10 v;
+      sh0 = bits 13 12 v;
+      tg0 = bits 15 14 v;
+      ps = bits 18 16 v;
+      vs = bits 19 19 v;
+      res1 = bits 31 31 v;
+      ds = bits 32 32 v;
+    }
 
 -- no field has more bits than its place
 pub record InRange (f : VtcrFields) : Type 0 where
@@ -111,17 +112,18 @@ joined f =
 
 abbrev pub fieldsFor : Stage2Regime → VmidBits → VtcrFields
 fieldsFor r b =
-    record
-    { t0sz = 64 - r .«ipa_bits»
-    ; sl0 = sl0 (r .«start_level»)
-    ; irgn0 = r .«walk_inner»
-    ; orgn0 = r .«walk_outer»
-    ; sh0 = r .«walk_shareability»
-    ; tg0 = tg0 (r .granule)
-    ; ps = ps (r .«pa_size»)
-    ; vs = vs b
-    ; res1 = 1
-    ; ds = 0 }
+    record {
+      t0sz = 64 - r .«ipa_bits»;
+      sl0 = sl0 (r .«start_level»);
+      irgn0 = r .«walk_inner»;
+      orgn0 = r .«walk_outer»;
+      sh0 = r .«walk_shareability»;
+      tg0 = tg0 (r .granule);
+      ps = ps (r .«pa_size»);
+      vs = vs b;
+      res1 = 1;
+      ds = 0;
+    }
 
 abbrev pub vtcrOf : Stage2Regime → VmidBits → Vtcr
 vtcrOf r b = pick (validRegime r) (Value (joined (fieldsFor r b))) Invalid
@@ -132,14 +134,15 @@ ifValid false r b = Nothing
 
 abbrev pub regimeWith : VtcrFields → Granule → StartLevel → PaSize → Stage2Regime
 regimeWith f g l s =
-    record
-    { granule = g
-    ; «ipa_bits» = 64 - f .t0sz
-    ; «start_level» = l
-    ; «pa_size» = s
-    ; «walk_shareability» = f .sh0
-    ; «walk_inner» = f .irgn0
-    ; «walk_outer» = f .orgn0 }
+    record {
+      granule = g;
+      «ipa_bits» = 64 - f .t0sz;
+      «start_level» = l;
+      «pa_size» = s;
+      «walk_shareability» = f .sh0;
+      «walk_inner» = f .irgn0;
+      «walk_outer» = f .orgn0;
+    }
 
 -- a reserved granule, level or size names no regime, nor do fields that name an invalid one
 abbrev pub regimeOf : VtcrFields → GranuleNamed → LevelNamed → SizeNamed → DecodedVtcr

@@ -411,6 +411,13 @@ pub fn vtcr_el2(regime: Stage2Regime, vmid_bits: VmidBits) -> Vtcr
     Vtcr::Value(fields.join())
 }
 
+// The value that the board is given.
+pub fn baleen_vtcr_el2() -> Vtcr
+    ensures { λ r. ⌜ r ≡ Vtcr.Value 0x8002_3559 ⌝ }
+{
+    vtcr_el2(BALEEN_STAGE2, BALEEN_VMID_BITS)
+}
+
 // The regime that a VTCR_EL2 value names, if the encoder could have made it.
 pub fn decode_vtcr_el2(v: u64) -> DecodedVtcr
     ensures { λ r. ⌜ r ≡ decodedVtcr v ⌝ }

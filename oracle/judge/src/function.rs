@@ -1,6 +1,6 @@
 //! What the comparison knows of a function, and the layers that the functions come from.
 
-use crate::inputs::{Inputs, Words};
+use crate::inputs::{few_codes, many_codes, one, Inputs, Words};
 use crate::{absent, desc, p2m, regime};
 
 /// A function that the original and the port both have.
@@ -29,8 +29,8 @@ pub struct Fault {
     /// What the slip is.
     pub slip: &'static str,
     pub op: u32,
-    /// The answer of a port that has it.
-    pub port: fn(&Words) -> Words,
+    /// Turns the port's answer to an input into that of a port with the slip.
+    pub alter: fn(&Words, &mut Words),
 }
 
 pub struct Layer {
@@ -49,6 +49,24 @@ pub fn faults() -> impl Iterator<Item = &'static Fault> {
 }
 
 impl Function {
+    /// A function of one code of a small enumeration.
+    pub const fn of_code(
+        name: &'static str,
+        op: u32,
+        original: fn(&Words) -> Words,
+        answers: &'static [Answer],
+    ) -> Self {
+        Function {
+            name,
+            op,
+            original,
+            boundary: || Box::new(few_codes().map(one)),
+            sweep: |scale| Box::new(many_codes(scale).map(one)),
+            answers,
+            recorded: true,
+        }
+    }
+
     pub fn inputs(&self, scale: u64) -> impl Iterator<Item = Words> {
         (self.boundary)().chain((self.sweep)(scale))
     }

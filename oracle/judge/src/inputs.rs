@@ -15,6 +15,12 @@ pub fn one(word: u64) -> Words {
     words([word])
 }
 
+/// The words after a change.
+pub fn altered(mut words: Words, alter: impl FnOnce(&mut Words)) -> Words {
+    alter(&mut words);
+    words
+}
+
 /// Splitmix64, from a fixed seed: every run asks the same.
 pub struct Random(pub u64);
 
@@ -80,15 +86,18 @@ pub fn few_codes() -> impl Iterator<Item = u64> {
     (0..=8).chain([255, 256]).chain(wide).chain([u64::MAX])
 }
 
-/// All codes of a byte and those around every power of two above.
-pub fn many_codes() -> impl Iterator<Item = u64> {
+/// The codes of a byte, those around every power of two above, and random ones.
+pub fn many_codes(scale: u64) -> impl Iterator<Item = u64> {
     let around = (8..64).flat_map(|bit| (0..9).map(move |n| (1 << bit) - 1 + n));
-    (0..=255).chain(around).chain([u64::MAX])
+    (0..=255)
+        .chain(around)
+        .chain([u64::MAX])
+        .chain(random_codes(100_000 * scale))
 }
 
-/// Random words, half of them with a small low half.
-pub fn random_codes(seed: u64, count: u64) -> impl Iterator<Item = u64> {
-    let mut random = Random(seed);
+/// Random words, half of which have a small low half.
+fn random_codes(count: u64) -> impl Iterator<Item = u64> {
+    let mut random = Random(1);
     (0..count).map(move |_| match random.word() {
         word if word >> 63 == 0 => word << 32 | word & 7,
         word => word,

@@ -5,7 +5,9 @@ use hv_core::p2m::{DomId, Mfn, PageType, PtLevel, System};
 use hv_s2::leafmap::{span_of_table, Span};
 
 use crate::function::{Answer, Fault, Function, Layer};
-use crate::inputs::{every, few_codes, many_codes, one, random, random_codes, words, Words};
+use crate::inputs::{
+altered, every, random, words, Random, Words,
+};
 use crate::port;
 
 const FRAME: u32 = 0;
@@ -17,95 +19,32 @@ const DOMAINS: usize = 1 << 16;
 const NOBODY: u64 = 1 << 16;
 
 pub const LAYER: Layer = Layer {
-    functions: &[
-        Function {
-            name: "frame",
-            op: FRAME,
-            original: frame,
-            boundary: || Box::new(frame_boundary().filter(representable)),
-            sweep: |scale| Box::new(frames(scale).filter(representable)),
-            answers: FRAME_ANSWERS,
-            recorded: true,
-        },
-        Function {
-            name: "frame, typed but unowned",
-            op: FRAME,
-            original: unowned_frame,
-            boundary: || Box::new(frame_boundary().filter(|x| !representable(x))),
-            sweep: |scale| Box::new(frames(scale).filter(|x| !representable(x))),
-            answers: FRAME_ANSWERS,
-            recorded: false,
-        },
-        Function {
-            name: "level",
-            op: LEVEL,
-            original: level,
-            boundary: || Box::new(few_codes().map(one)),
-            sweep: |scale| Box::new(many_codes().chain(random_codes(1, 100_000 * scale)).map(one)),
-            answers: LEVEL_ANSWERS,
-            recorded: true,
-        },
-        Function {
-            name: "page type",
-            op: PAGE_TYPE,
-            original: page_type,
-            boundary: || Box::new(few_codes().map(one)),
-            sweep: |scale| Box::new(many_codes().chain(random_codes(2, 100_000 * scale)).map(one)),
-            answers: LEVEL_ANSWERS,
-            recorded: true,
-        },
-    ],
-    faults: &[
-        Fault {
-            name: "owner-65536-as-domain",
-            slip: "the owner number just past the domains is cut to domain 0",
-            op: FRAME,
-            port: |x| match asked(x) {
-                Some(Row { owner: 65_536, .. }) => with(port::answer(FRAME, x), 0, 0),
-                _ => port::answer(FRAME, x),
-            },
-        },
-        Fault {
-            name: "owner-65535-as-nobody",
-            slip: "the last domain is taken for nobody",
-            op: FRAME,
-            port: |x| match port::answer(FRAME, x) {
-                answer if answer[0] == 65_535 => with(answer, 0, NOBODY),
-                answer => answer,
-            },
-        },
-        Fault {
-            name: "kind-4-has-a-span",
-            slip: "a leaf of an L3 table is taken for a super page",
-            op: FRAME,
-            port: |x| match port::answer(FRAME, x) {
-                answer if answer[1] == 4 => with(answer, 2, 2),
-                answer => answer,
-            },
-        },
-        Fault {
-            name: "list-one-longer",
-            slip: "the frame just past the list is read as a row of it",
-            op: FRAME,
-            port: |x| port::answer(FRAME, &with(*x, 6, x[6].saturating_add(1))),
-        },
-        Fault {
-            name: "interior-entry-under-l1",
-            slip: "an interior entry of an L1 table maps a writable page",
-            op: LEVEL,
-            port: |x| match port::answer(LEVEL, x) {
-                answer if answer[0] == 2 => with(answer, 1, 1),
-                answer => answer,
-            },
-        },
-        Fault {
-            name: "writable-has-a-level",
-            slip: "the level of a writable page is L1",
-            op: PAGE_TYPE,
-            port: |x| port::answer(PAGE_TYPE, &one(if x[0] == 1 { 2 } else { x[0] })),
-        },
-    ],
+    functions: FUNCTIONS,
+    faults: FAULTS,
 };
+
+const FUNCTIONS: &[Function] = &[
+    Function {
+        name: "frame",
+        op: FRAME,
+        original: frame,
+        boundary: || Box::new(frame_boundary().filter(representable)),
+        sweep: |scale| Box::new(frames(scale).filter(representable)),
+        answers: FRAME_ANSWERS,
+        recorded: true,
+    },
+    Function {
+        name: "frame, typed and unowned",
+        op: FRAME,
+        original: unowned_frame,
+        boundary: || Box::new(frame_boundary().filter(|x| !representable(x))),
+        sweep: |scale| Box::new(frames(scale).filter(|x| !representable(x))),
+        answers: FRAME_ANSWERS,
+        recorded: false,
+    },
+    Function::of_code("level", LEVEL, level, LEVEL_ANSWERS),
+    Function::of_code("page type", PAGE_TYPE, page_type, LEVEL_ANSWERS),
+];
 
 const FRAME_ANSWERS: &[Answer] = &[
     ("domain", |answer| answer[0] < NOBODY),
@@ -253,3 +192,126 @@ fn code_of(page_type: PageType) -> u64 {
         PageType::PageTable(level) => kind_of(level),
     }
 }
+
+/// Owner numbers at both ends of the domains, and numbers that are such modulo 2^32.
+fn owners() -> Vec<u64> {
+    let numbers = [0, 1, 65_534, 65_535, 65_536, 65_537, 1 << 31, (1 << 32) - 1];
+    let wide = [0, 65_535, 65_536].map(|number| number + (1 << 32));
+    [&numbers[..], &wide, &[u64::MAX]].concat()
+}
+
+fn kinds() -> Vec<u64> {
+    let wide = [1 << 16, 1 << 32].map(|high| (0..=6).map(move |kind| high + kind));
+    let wide = wide.into_iter().flatten();
+    (0..=255).chain(wide).chain([(1 << 32) - 1, u64::MAX]).collect()
+}
+
+fn counts() -> Vec<u64> {
+    vec![0, 1, 2, 3, 4, 1 << 32, u64::MAX]
+}
+
+/// Frames in and past a list, and numbers that are such modulo 2^32.
+fn places() -> Vec<u64> {
+    vec![0, 1, 2, 3, 4, (1 << 32) - 1, 1 << 32, (1 << 32) + 1, u64::MAX]
+}
+
+/// Lists that start with a row of these, followed by an L2 table and a frame of nobody.
+fn lists(
+    owners: Vec<u64>,
+    kinds: Vec<u64>,
+    counts: Vec<u64>,
+    places: Vec<u64>,
+) -> impl Iterator<Item = Words> {
+    let [owner, kind, nobody, none] = [7, 3, NOBODY, 0].map(|number| vec![number]);
+    every([owners, kinds, owner, kind, nobody, none, counts, places])
+}
+
+fn frame_boundary() -> impl Iterator<Item = Words> {
+    let rows = lists(owners(), (0..=6).collect(), vec![1], vec![0]);
+    rows.chain(lists(vec![65_535], vec![2], counts(), places()))
+}
+
+fn frames(scale: u64) -> impl Iterator<Item = Words> {
+    let swept = lists(owners(), kinds(), counts(), places());
+    // Each row of the list has its turn at each place.
+    let turned = |x| (0..3).map(move |by| altered(x, |x| x[..6].rotate_right(2 * by)));
+    swept
+        .flat_map(turned)
+        .chain(random(1, 200_000 * scale, random_list))
+}
+
+fn random_list(random: &mut Random) -> Words {
+    let mut row = || [random.below(2 * NOBODY), random.below(8)];
+    let [a, b, c] = [row(), row(), row()];
+    words([
+        a[0],
+        a[1],
+        b[0],
+        b[1],
+        c[0],
+        c[1],
+        random.below(5),
+        random.below(5),
+    ])
+}
+
+const FAULTS: &[Fault] = &[
+    Fault {
+        name: "owner-65536-as-domain",
+        slip: "the number just past the domains is cut to domain 0",
+        op: FRAME,
+        alter: |x, answer| {
+            if asked(x).is_some_and(|row| row.owner == 65_536) {
+                answer[0] = 0;
+            }
+        },
+    },
+    Fault {
+        name: "owner-65535-as-nobody",
+        slip: "the last domain is taken for nobody",
+        op: FRAME,
+        alter: |_, answer| {
+            if answer[0] == 65_535 {
+                answer[0] = NOBODY;
+            }
+        },
+    },
+    Fault {
+        name: "kind-4-has-a-span",
+        slip: "a leaf of an L3 table is taken for a super page",
+        op: FRAME,
+        alter: |_, answer| {
+            if answer[1] == 4 {
+                answer[2] = 2;
+            }
+        },
+    },
+    Fault {
+        name: "list-one-longer",
+        slip: "the frame just past the list is read as a row of it",
+        op: FRAME,
+        alter: |x, answer| {
+            *answer = port::answer(FRAME, &altered(*x, |x| x[6] = x[6].saturating_add(1)));
+        },
+    },
+    Fault {
+        name: "interior-entry-under-l1",
+        slip: "an interior entry of an L1 table leads to a writable page",
+        op: LEVEL,
+        alter: |_, answer| {
+            if answer[0] == 2 {
+                answer[1] = 1;
+            }
+        },
+    },
+    Fault {
+        name: "writable-has-a-level",
+        slip: "a writable page is taken for an L1 table",
+        op: PAGE_TYPE,
+        alter: |x, answer| {
+            if x[0] == 1 {
+                answer[0] = 2;
+            }
+        },
+    },
+];

@@ -1,13 +1,18 @@
--- `vtcr_el2` meets its contract.
-use mathlib.Core.Path.{_∙_, sym, ap}
+-- `vtcr_el2` meets its contract: past the first test the regime is valid, so its fields fit.
+use mathlib.Core.Path.{_≡_, _∙_, sym, ap}
+use mathlib.Core.Bool.{true}
 use native.Mathlib.Omega.{arith}
 use borrow.Author.Tests.{not-true, not-false}
 use Rattle.regime.specs.declared.Vtcr.the-variants.{Value}
-use Rattle.regime.proofs.Bounds.{page-range, sl0-range, tg0-range, ps-range, vs-range}
-use Rattle.regime.proofs.Valid.{facts}
+use Rattle.regime.specs.Regime.{validRegime}
+use Rattle.regime.proofs.Valid.{facts, in-range}
 use borrow.Author.Needs.{needs}
 use Rattle.regime.proofs.vtcr_el2.Statement.{statement}
 use Rattle.regime.proofs.vtcr_el2.Tie as tie
+
+-- past the first test the regime is valid
+is-valid : (k : tie.Else1) → validRegime (k .before .before .args .regime) ≡ true
+is-valid k = sym (k .before .valid .ensures) ∙ not-false _ (k .if1 .left)
 
 valid-requires : tie.Need-valid-requires
 valid-requires c κs = search needs
@@ -19,7 +24,7 @@ cast-t9 : tie.Need-cast-t9
 cast-t9 c = search needs
 
 sub-t10 : tie.Need-sub-t10
-sub-t10 c = omega (arith, facts (c .before .before .before .args .regime) (sym (c .before .before .valid .ensures) ∙ not-false _ (c .before .if1 .left)) .wide)
+sub-t10 c = omega (arith, facts (c .before .before .before .args .regime) (is-valid (c .before)) .wide)
 
 sl0-requires : tie.Need-sl0-requires
 sl0-requires c κs = search needs
@@ -35,33 +40,23 @@ vs-requires c κs = search needs
 
 join-requires : tie.Need-join-requires
 join-requires c κs =
-    let a = c .before .before .before .before .before .before .before .args in
-    let v = facts (a .regime) (sym (c .before .before .before .before .before .before .valid .ensures) ∙ not-false _ (c .before .before .before .before .before .if1 .left)) in
-    let g = page-range (a .regime .granule) in
-    record
-    { t0sz = omega arith
-    ; sl0 = omega (arith, sl0-range (a .regime .«start_level»))
-    ; irgn0 = omega arith
-    ; orgn0 = omega arith
-    ; sh0 = omega arith
-    ; tg0 = omega (arith, tg0-range (a .regime .granule))
-    ; ps = omega (arith, ps-range (a .regime .«pa_size»))
-    ; vs = omega (arith, vs-range (a .«vmid-bits»))
-    ; res1 = omega arith
-    ; ds = omega arith }
+    let b = c .before .before .before .before .before in
+    let a = b .before .before .args in
+    rw (c .before .before .before .sl0 .ensures, c .before .before .tg0 .ensures, c .before .ps .ensures, c .vs .ensures)
+    (in-range (a .regime) (a .«vmid-bits») (facts (a .regime) (is-valid b)))
 
 returns-2 : tie.Need-returns-2
 returns-2 c =
     let b = c .before .before .before .before .before .before in
-    let v = sym (b .before .valid .ensures) ∙ not-false _ (b .if1 .left) in
-    rw v
+    rw (is-valid b)
     (ap Value
     (c .join .ensures
-    ∙ simp
-    (c .before .before .before .before .sl0 .ensures
-    , c .before .before .before .tg0 .ensures
-    , c .before .before .ps .ensures
-    , c .before .vs .ensures)))
+    ∙ simp (
+      c .before .before .before .before .sl0 .ensures,
+      c .before .before .before .tg0 .ensures,
+      c .before .before .ps .ensures,
+      c .before .vs .ensures,
+    )))
 
 pub vtcr-el2-spec : {M : Type 1} → statement M
 vtcr-el2-spec =

@@ -17,10 +17,11 @@ returns-3 c = sym (ap granuleNamed (c .match .keys3))
 returns-4 : tie.Need-returns-4
 returns-4 c =
     let r = c .match .rest in
-    simp
-    (ne-eqb _ _ (r .0 .0 .1)
-    , ne-eqb _ _ (r .0 .1)
-    , ne-eqb _ _ (r .1))
+    simp (
+      ne-eqb _ _ (r .0 .0 .1),
+      ne-eqb _ _ (r .0 .1),
+      ne-eqb _ _ (r .1),
+    )
 
 pub from-tg0-spec : {M : Type 1} → statement M
 from-tg0-spec = tie.close (tie.spec returns returns-2 returns-3 returns-4)

@@ -29,14 +29,15 @@ returns-7 c = sym (ap sizeNamed (c .match .keys7))
 returns-8 : tie.Need-returns-8
 returns-8 c =
     let r = c .match .rest in
-    simp
-    (ne-eqb _ _ (r .0 .0 .0 .0 .0 .0 .1)
-    , ne-eqb _ _ (r .0 .0 .0 .0 .0 .1)
-    , ne-eqb _ _ (r .0 .0 .0 .0 .1)
-    , ne-eqb _ _ (r .0 .0 .0 .1)
-    , ne-eqb _ _ (r .0 .0 .1)
-    , ne-eqb _ _ (r .0 .1)
-    , ne-eqb _ _ (r .1))
+    simp (
+      ne-eqb _ _ (r .0 .0 .0 .0 .0 .0 .1),
+      ne-eqb _ _ (r .0 .0 .0 .0 .0 .1),
+      ne-eqb _ _ (r .0 .0 .0 .0 .1),
+      ne-eqb _ _ (r .0 .0 .0 .1),
+      ne-eqb _ _ (r .0 .0 .1),
+      ne-eqb _ _ (r .0 .1),
+      ne-eqb _ _ (r .1),
+    )
 
 pub from-ps-spec : {M : Type 1} → statement M
 from-ps-spec =

@@ -20,11 +20,12 @@ returns-4 c = sym (ap levelNamed (c .match .keys4))
 returns-5 : tie.Need-returns-5
 returns-5 c =
     let r = c .match .rest in
-    simp
-    (ne-eqb _ _ (r .0 .0 .0 .1)
-    , ne-eqb _ _ (r .0 .0 .1)
-    , ne-eqb _ _ (r .0 .1)
-    , ne-eqb _ _ (r .1))
+    simp (
+      ne-eqb _ _ (r .0 .0 .0 .1),
+      ne-eqb _ _ (r .0 .0 .1),
+      ne-eqb _ _ (r .0 .1),
+      ne-eqb _ _ (r .1),
+    )
 
 pub from-sl0-spec : {M : Type 1} → statement M
 from-sl0-spec = tie.close (tie.spec returns returns-2 returns-3 returns-4 returns-5)

@@ -13,15 +13,15 @@ granule : (k : tie.After-known-told) → granuleNamed (k .before .before .before
 granule k = sym (k .before .before .before .from-tg0 .ensures) ∙ k .before .granule .given .1
 
 level :
-  (k : tie.After-known-told2) →
-  levelNamed (k .before .before .before .before .before .before .before .before .args .self .sl0)
-  ≡ Level (k .before .start-level .given .0 .0)
+    (k : tie.After-known-told2) →
+    levelNamed (k .before .before .before .before .before .before .before .before .args .self .sl0)
+    ≡ Level (k .before .start-level .given .0 .0)
 level k = sym (k .before .before .before .from-sl0 .ensures) ∙ k .before .start-level .given .1
 
 size :
-  (k : tie.After-known-told3) →
-  sizeNamed (k .before .before .before .before .before .before .before .before .before .before .before .before .args .self .ps)
-  ≡ Size (k .before .pa-size .given .0 .0)
+    (k : tie.After-known-told3) →
+    sizeNamed (k .before .before .before .before .before .before .before .before .before .before .before .before .args .self .ps)
+    ≡ Size (k .before .pa-size .given .0 .0)
 size k = sym (k .before .before .before .from-ps .ensures) ∙ k .before .pa-size .given .1
 
 from-tg0-requires : tie.Need-from-tg0-requires

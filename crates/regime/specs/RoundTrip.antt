@@ -1,0 +1,28 @@
+-- What is proved of the two registers: decoding gives back what was encoded.
+use Prim.Native.Nat.{ℕ, _^_, _<_}
+use mathlib.Core.Path.{_≡_}
+use mathlib.Core.Bool.{true}
+use Rattle.regime.specs.declared.DecodedVtcr.the-variants.{Regime}
+use Rattle.regime.specs.declared.Stage2Regime.{Stage2Regime}
+use Rattle.regime.specs.declared.VmidBits.{VmidBits}
+use Rattle.regime.specs.declared.VmidBits.the-variants.{B8}
+use Rattle.regime.specs.declared.Vtcr.the-variants.{Value}
+use Rattle.regime.specs.Regime.{vmids, validRegime, baleenStage2}
+use Rattle.regime.specs.Vtcr.{vtcrOf, decodedVtcr}
+use Rattle.regime.specs.Vttbr.{vttbrOf, baddr, vmidOf}
+
+-- every valid regime has a value, which decodes to it
+abbrev pub VtcrRoundTrip : Type 0
+VtcrRoundTrip =
+    (r : Stage2Regime) (b : VmidBits) →
+    validRegime r ≡ true → (v : ℕ) × (vtcrOf r b ≡ Value v) × (decodedVtcr v ≡ Regime r b)
+
+-- the regime that is run has the value that the board was given
+abbrev pub BaleenValue : Type 0
+BaleenValue = vtcrOf baleenStage2 B8 ≡ Value 0x8002_3559
+
+-- a base below 2 ^ 48 and a VMID of the width come back
+abbrev pub VttbrRoundTrip : Type 0
+VttbrRoundTrip =
+    (base vmid : ℕ) (b : VmidBits) →
+    base < 2 ^ 48 → vmid < vmids b → (baddr (vttbrOf base vmid) ≡ base) × (vmidOf (vttbrOf base vmid) b ≡ vmid)

@@ -1,0 +1,266 @@
+//! arm64.rs, descriptors: permissions, memory types, the emitted words and the decoders.
+
+use hv_s2::arm64::memtype::MemoryType;
+use hv_s2::arm64::{
+    block_leaf_attrs, decode_block, decode_device_block, decode_page, decode_table, desc,
+    leaf_access_xn, page_leaf_attrs, Decoded,
+};
+use hv_s2::leafmap::Perm;
+
+use crate::function::{Answer, Fault, Function, Layer};
+use crate::inputs::{
+    changed, every, few_codes, many_codes, one, random, random_codes, twice_changed, words, Random,
+    Words,
+};
+use crate::port;
+
+const PERM: u32 = 3;
+const MEMORY_TYPE: u32 = 4;
+const CONSTANTS: u32 = 5;
+const WORDS: u32 = 6;
+const DECODE_PAGE: u32 = 7;
+const DECODE_BLOCK: u32 = 8;
+const DECODE_TABLE: u32 = 9;
+const DECODE_DEVICE_BLOCK: u32 = 10;
+
+pub const LAYER: Layer = Layer {
+    functions: FUNCTIONS,
+    faults: FAULTS,
+};
+
+const FUNCTIONS: &[Function] = &[
+    Function {
+        name: "perm",
+        op: PERM,
+        original: perm,
+        boundary: || Box::new(perms(few_codes())),
+        sweep: |scale| Box::new(perms(many_codes(scale))),
+        answers: PERM_ANSWERS,
+        recorded: true,
+    },
+    Function::of_code("memory type", MEMORY_TYPE, memory_type, MEMORY_TYPE_ANSWERS),
+    of_nothing("constants", CONSTANTS, constants),
+    of_nothing("words", WORDS, emitted_words),
+    decoder("decode_page", DECODE_PAGE, page, LEAF_ANSWERS),
+    decoder("decode_block", DECODE_BLOCK, block, LEAF_ANSWERS),
+    decoder("decode_table", DECODE_TABLE, table, TABLE_ANSWERS),
+    decoder("decode_device_block", DECODE_DEVICE_BLOCK, device, DEVICE_ANSWERS),
+];
+
+/// Constants: the input does not matter, whatever it is.
+const fn of_nothing(name: &'static str, op: u32, original: fn(&Words) -> Words) -> Function {
+    Function {
+        name,
+        op,
+        original,
+        boundary: || Box::new([[0; 8], [u64::MAX; 8]].into_iter()),
+        sweep: |scale| Box::new(random(2, 1_000 * scale, Random::words)),
+        answers: &[("eight words", |answer| !answer.contains(&0))],
+        recorded: true,
+    }
+}
+
+/// A decoder: all of them are given the same words.
+const fn decoder(
+    name: &'static str,
+    op: u32,
+    original: fn(&Words) -> Words,
+    answers: &'static [Answer],
+) -> Function {
+    Function {
+        name,
+        op,
+        original,
+        boundary: || Box::new(descriptor_boundary().map(one)),
+        sweep: |scale| Box::new(descriptors(scale).map(one)),
+        answers,
+        recorded: true,
+    }
+}
+
+const PERM_ANSWERS: &[Answer] = &[
+    ("none", |answer| answer[2] == 0),
+    ("Ro", |answer| answer[2] == desc::PAGE_RO),
+    ("Rw", |answer| answer[2] == desc::PAGE_RW),
+    ("Rx", |answer| answer[2] == desc::PAGE_RX),
+    ("exempt Rw", |answer| answer[3] == desc::BLOCK_RW_X),
+];
+
+const MEMORY_TYPE_ANSWERS: &[Answer] = &[
+    ("none", |answer| answer[0] == 0),
+    ("NormalWbIsh", |answer| answer[..2] == [1, 0xff]),
+    ("NormalNonCacheable", |answer| answer[..2] == [1, 0x44]),
+    ("DeviceNGnRnE", |answer| answer[..2] == [1, 0x00]),
+];
+
+const LEAF_ANSWERS: &[Answer] = &[
+    ("nothing", |answer| answer[0] == 0),
+    ("Ro", |answer| answer[2..4] == [1, 0]),
+    ("Ro XN", |answer| answer[2..4] == [1, 1]),
+    ("Rw", |answer| answer[2..4] == [2, 0]),
+    ("Rw XN", |answer| answer[2..4] == [2, 1]),
+];
+
+const TABLE_ANSWERS: &[Answer] = &[
+    ("nothing", |answer| answer[0] == 0),
+    ("table", |answer| answer[0] == 1),
+];
+
+const DEVICE_ANSWERS: &[Answer] = &[
+    ("nothing", |answer| answer[0] == 0),
+    ("device", |answer| answer[0] == 1 && answer[2] == 0),
+    ("device XN", |answer| answer[0] == 1 && answer[2] == 1),
+];
+
+fn perm(x: &Words) -> Words {
+    let perm = match x[0] {
+        1 => Perm::Ro,
+        2 => Perm::Rw,
+        3 => Perm::Rx,
+        _ => return words([]),
+    };
+    let wx_exempt = x[1] != 0;
+    let (access, xn) = leaf_access_xn(perm, wx_exempt);
+    words([
+        perm.writable().into(),
+        perm.executable().into(),
+        page_leaf_attrs(perm),
+        block_leaf_attrs(perm, wx_exempt),
+        code_of(access),
+        xn.into(),
+    ])
+}
+
+fn code_of(perm: Perm) -> u64 {
+    match perm {
+        Perm::Ro => 1,
+        Perm::Rw => 2,
+        Perm::Rx => 3,
+    }
+}
+
+fn memory_type(x: &Words) -> Words {
+    let memory_type = match x[0] {
+        0 => MemoryType::NormalWbIsh,
+        1 => MemoryType::NormalNonCacheable,
+        2 => MemoryType::DeviceNGnRnE,
+        _ => return words([]),
+    };
+    words([
+        1,
+        memory_type.stage1_mair_byte().into(),
+        memory_type.stage2_leaf_bits(),
+        memory_type.shareability_bits(),
+    ])
+}
+
+fn constants(_: &Words) -> Words {
+    [
+        desc::TABLE,
+        desc::PAGE,
+        desc::BLOCK,
+        desc::AF,
+        desc::S2AP_RW,
+        desc::S2AP_RO,
+        desc::XN,
+        desc::LEAF_COMMON,
+    ]
+}
+
+fn emitted_words(_: &Words) -> Words {
+    [
+        desc::BLOCK_ROX,
+        desc::PAGE_RW,
+        desc::PAGE_RO,
+        desc::PAGE_RX,
+        desc::BLOCK_RW,
+        desc::BLOCK_RO,
+        desc::BLOCK_RW_X,
+        desc::BLOCK_DEVICE,
+    ]
+}
+
+fn page(x: &Words) -> Words {
+    decode_page(x[0]).map_or(words([]), leaf)
+}
+
+fn block(x: &Words) -> Words {
+    decode_block(x[0]).map_or(words([]), leaf)
+}
+
+fn leaf(decoded: Decoded) -> Words {
+    words([1, decoded.pa, code_of(decoded.perm), decoded.xn.into()])
+}
+
+fn table(x: &Words) -> Words {
+    decode_table(x[0]).map_or(words([]), |pa| words([1, pa]))
+}
+
+fn device(x: &Words) -> Words {
+    decode_device_block(x[0]).map_or(words([]), |decoded| {
+        words([1, decoded.pa, decoded.xn.into()])
+    })
+}
+
+/// Every word that is emitted, as yet without an address.
+const EMITTED: [u64; 9] = [
+    desc::TABLE,
+    desc::BLOCK_ROX,
+    desc::PAGE_RW,
+    desc::PAGE_RO,
+    desc::PAGE_RX,
+    desc::BLOCK_RW,
+    desc::BLOCK_RO,
+    desc::BLOCK_RW_X,
+    desc::BLOCK_DEVICE,
+];
+
+/// Output addresses: both ends of the page and of the block field, and some of a real layout.
+const ADDRESSES: [u64; 9] = [
+    0,
+    0x1000,
+    0x20_0000,
+    0x5000_1000,
+    0x6040_0000,
+    0x8_0000_0000,
+    1 << 47,
+    desc::ADDR_2M,
+    desc::ADDR_4K,
+];
+
+/// Bits of each field that a decoder reads or must not read.
+const FIELD_BITS: [u64; 10] = [0, 1, 2, 5, 6, 7, 47, 48, 53, 54];
+
+fn perms(codes: impl Iterator<Item = u64>) -> impl Iterator<Item = Words> {
+    // All that is not zero is an exemption, wherever the bit is.
+    let exempt = [0, 1, 2, 1 << 32, u64::MAX];
+    codes.flat_map(move |code| exempt.map(|exempt| words([code, exempt])))
+}
+
+fn descriptor_boundary() -> impl Iterator<Item = u64> {
+    let ends = EMITTED.into_iter().flat_map(|word| [word, word | desc::ADDR_4K]);
+    let changed = EMITTED
+        .into_iter()
+        .flat_map(|word| FIELD_BITS.map(|bit| (word | 0x6040_0000) ^ (1 << bit)));
+    [0, u64::MAX].into_iter().chain(ends).chain(changed)
+}
+
+fn descriptors(scale: u64) -> impl Iterator<Item = u64> {
+    let near_emitted = emitted().flat_map(|word| {
+        [word].into_iter().chain(changed(word)).chain(twice_changed(word))
+    });
+    near_emitted
+        .chain(low_patterns())
+        .chain(random_descriptors(500_000 * scale))
+        .chain(Random(4).take(1_000_000 * scale))
+}
+
+/// Every emitted word at every address, random aligned ones included.
+fn emitted() -> impl Iterator<Item = u64> {
+    let mut random = Random(3);
+    let addresses: Vec<u64> = ADDRESSES
+        .into_iter()
+        .chain((0..16).map(|_| random.word() & desc::ADDR_4K))
+        .chain((0..16).map(|_| random.word() & desc::ADDR_2M))
+        .collect();
+}
