@@ -21,7 +21,7 @@ fn item(folder: &Path, name: &str) -> String {
     let file = folder.join(name).with_extension("rs");
     let Ok(path) = file.canonicalize() else {
         let file = file.display();
-        println!("cargo::error=the original {file} is not there: HV_SRC names its folder");
+        println!("cargo::error=no {file}: HV_SRC names the folder of hv-core and hv-s2");
         return String::new();
     };
     println!("cargo::rerun-if-changed={}", path.display());

@@ -13,7 +13,7 @@ fn main() {
     let archive = folder.join("libprobe.a");
     if !archive.exists() {
         let archive = archive.display();
-        println!("cargo::error=the port's {archive} is not there: PROBE_DIR names its folder");
+        println!("cargo::error=no {archive}: PROBE_DIR names its folder");
     }
     println!("cargo::rerun-if-changed={}", archive.display());
     println!("cargo::rustc-link-search=native={}", folder.display());

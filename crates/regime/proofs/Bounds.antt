@@ -13,7 +13,7 @@ use Rattle.regime.specs.declared.PaSize.the-variants.{B32, B36, B40, B42
 use Rattle.regime.specs.declared.VmidBits.{VmidBits}
 use Rattle.regime.specs.declared.VmidBits.the-variants.{B8, B16}
 use Rattle.regime.specs.Regime.{pageBits, levelBits, number, span, vmids}
-use Rattle.regime.specs.Vtcr.{tg0, sl0, ps, vs}
+use Rattle.regime.specs.Codes.{tg0, sl0, ps, vs}
 
 pub page-range : (g : Granule) → (12 ≤ pageBits g) × (pageBits g ≤ 16)
 page-range K4 = omega arith
@@ -28,6 +28,7 @@ number-range L3 = omega arith
 
 -- the walk resolves an index at least
 pub span-range : (l : StartLevel) (g : Granule) → (levelBits g ≤ span l g) × (span l g ≤ 68)
+unfolding span
 span-range L0 K4 = omega arith
 span-range L0 K16 = omega arith
 span-range L0 K64 = omega arith

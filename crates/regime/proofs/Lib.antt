@@ -1,3 +1,1 @@
 pub mod Bounds
-pub mod RoundTrip
-pub mod Valid

@@ -1,4 +1,2 @@
+pub mod Codes
 pub mod Regime
-pub mod RoundTrip
-pub mod Vtcr
-pub mod Vttbr

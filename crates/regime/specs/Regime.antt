@@ -31,28 +31,29 @@ number L2 = 2
 number L3 = 3
 
 -- the offset, and an index for each level from this one to level 3
-abbrev pub span : StartLevel → Granule → ℕ
+unfoldable pub span : StartLevel → Granule → ℕ
 span l g = pageBits g + (4 - number l) * levelBits g
 
 -- what the walk resolves below its start level
-abbrev pub below : Stage2Regime → ℕ
+unfoldable pub below : Stage2Regime → ℕ
 below r = span (r .«start_level») (r .granule) - levelBits (r .granule)
 
 abbrev pub vmids : VmidBits → ℕ
 vmids B8 = 2 ^ 8
 vmids B16 = 2 ^ 16
 
--- the input has at most 48 bits and more than a page's; the start level resolves it and the next does not; the attributes of the
--- walk's fetches have two bits each
-abbrev pub validRegime : Stage2Regime → Bool
-validRegime r =
+-- the input has at most 48 bits and more than a page's; the start level resolves it and the next does not
+unfoldable pub inputFits : Stage2Regime → Bool
+inputFits r =
     leb (r .«ipa_bits») 48
     && ltb (pageBits (r .granule)) (r .«ipa_bits»)
     && leb (r .«ipa_bits») (span (r .«start_level») (r .granule))
     && ltb (below r) (r .«ipa_bits»)
-    && leb (r .«walk_shareability») 0b11
-    && leb (r .«walk_inner») 0b11
-    && leb (r .«walk_outer») 0b11
+
+-- the attributes of the walk's fetches have two bits each
+unfoldable pub validRegime : Stage2Regime → Bool
+validRegime r =
+    inputFits r && leb (r .«walk_shareability») 0b11 && leb (r .«walk_inner») 0b11 && leb (r .«walk_outer») 0b11
 
 -- T0SZ: the input size as a shrink from 64 bits
 abbrev pub t0szOf : Stage2Regime → Determined

@@ -1,10 +1,8 @@
-// The stage-2 translation regime (hv-s2's arm64.rs): the parameters that a walker reads the tables under, as VTCR_EL2 encodes them,
-// and VTTBR_EL2.
+// The stage-2 translation regime (hv-s2's arm64.rs): the parameters that a walker reads the tables under, each with its code in
+// VTCR_EL2.
 ghost use mathlib.Core.Path.{_≡_};
-ghost use Prim.Native.Nat.{_<_};
-ghost use Rattle.regime.specs.Regime.{pageBits, levelBits, number, span, below, vmids, validRegime, t0szOf, tableAlign};
-ghost use Rattle.regime.specs.Vtcr.{tg0, granuleNamed, sl0, levelNamed, ps, sizeNamed, vs, vmidBitsNamed, fieldsOf, InRange, joined, regimeNamed, vtcrOf, decodedVtcr};
-ghost use Rattle.regime.specs.Vttbr.{vttbrOf, baddr, vmidOf};
+ghost use Rattle.regime.specs.Codes.{tg0, granuleNamed, sl0, levelNamed, ps, sizeNamed, vs, vmidBitsNamed};
+ghost use Rattle.regime.specs.Regime.{pageBits, levelBits, number, span, below, vmids, inputFits, validRegime, t0szOf, tableAlign};
 
 // The translation granule: the size of a page.
 pub enum Granule {
@@ -65,34 +63,10 @@ pub struct Stage2Regime {
     pub walk_outer: u64,
 }
 
-// The fields of VTCR_EL2.
-struct VtcrFields {
-    t0sz: u64,
-    sl0: u64,
-    irgn0: u64,
-    orgn0: u64,
-    sh0: u64,
-    tg0: u64,
-    ps: u64,
-    vs: u64,
-    res1: u64,
-    ds: u64,
-}
-
 // A number that a regime determines. Undefined is where the Rust's sum or shift has no answer.
 pub enum Determined {
     Value(u64),
     Undefined,
-}
-
-pub enum Vtcr {
-    Value(u64),
-    Invalid,
-}
-
-pub enum DecodedVtcr {
-    Regime(Stage2Regime, VmidBits),
-    Nothing,
 }
 
 // The regime that is run: 4 KB granule, 39-bit input, start level 1, 40-bit output.
@@ -234,7 +208,7 @@ impl VmidBits {
     }
 
     // VS has one bit.
-    fn from_vs(v: u64) -> VmidBits
+    pub fn from_vs(v: u64) -> VmidBits
         ensures { λ r. ⌜ r ≡ vmidBitsNamed v ⌝ }
     {
         if v == 0 { VmidBits::B8 } else { VmidBits::B16 }
@@ -251,75 +225,26 @@ impl VmidBits {
     }
 }
 
-impl VtcrFields {
-    fn of(v: u64) -> VtcrFields
-        ensures { λ r. ⌜ r ≡ fieldsOf v ⌝ }
-    {
-        VtcrFields {
-            t0sz: v % 0x40,
-            sl0: v / 0x40 % 4,
-            irgn0: v / 0x100 % 4,
-            orgn0: v / 0x400 % 4,
-            sh0: v / 0x1000 % 4,
-            tg0: v / 0x4000 % 4,
-            ps: v / 0x1_0000 % 8,
-            vs: v / 0x8_0000 % 2,
-            res1: v / 0x8000_0000 % 2,
-            ds: v / 0x1_0000_0000 % 2,
-        }
-    }
-
-    fn join(self) -> u64
-        requires { ⌜ InRange self ⌝ }
-        ensures { λ r. ⌜ r ≡ joined self ⌝ }
-    {
-        self.t0sz
-            + self.sl0 * 0x40
-            + self.irgn0 * 0x100
-            + self.orgn0 * 0x400
-            + self.sh0 * 0x1000
-            + self.tg0 * 0x4000
-            + self.ps * 0x1_0000
-            + self.vs * 0x8_0000
-            + self.res1 * 0x8000_0000
-            + self.ds * 0x1_0000_0000
-    }
-
-    // The regime that the fields name, if none is reserved and it is valid.
-    fn regime(self) -> DecodedVtcr
-        requires { ⌜ self .t0sz < 64 ⌝ }
-        ensures { λ r. ⌜ r ≡ regimeNamed self ⌝ }
-    {
-        let GranuleNamed::Granule(granule) = Granule::from_tg0(self.tg0) else {
-            return DecodedVtcr::Nothing;
-        };
-        let LevelNamed::Level(start_level) = StartLevel::from_sl0(self.sl0) else {
-            return DecodedVtcr::Nothing;
-        };
-        let SizeNamed::Size(pa_size) = PaSize::from_ps(self.ps) else {
-            return DecodedVtcr::Nothing;
-        };
-        let regime = Stage2Regime {
-            granule,
-            ipa_bits: 64 - self.t0sz as u32,
-            start_level,
-            pa_size,
-            walk_shareability: self.sh0,
-            walk_inner: self.irgn0,
-            walk_outer: self.orgn0,
-        };
-        if regime.valid() {
-            DecodedVtcr::Regime(regime, VmidBits::from_vs(self.vs))
-        } else {
-            DecodedVtcr::Nothing
-        }
-    }
-}
-
 impl Stage2Regime {
-    // Whether a walker can be configured so. One table is one page, so the start level resolves the input and the next does not.
+    // Whether a walker can be configured so.
     pub fn valid(self) -> bool
         ensures { λ r. ⌜ r ≡ validRegime self ⌝ }
+    {
+        if !self.input_fits() {
+            return false;
+        }
+        if 0b11 < self.walk_shareability {
+            return false;
+        }
+        if 0b11 < self.walk_inner {
+            return false;
+        }
+        self.walk_outer <= 0b11
+    }
+
+    // One table is one page, so the start level resolves the input and the next does not.
+    fn input_fits(self) -> bool
+        ensures { λ r. ⌜ r ≡ inputFits self ⌝ }
     {
         let granule = self.granule;
         let start_level = self.start_level;
@@ -333,16 +258,7 @@ impl Stage2Regime {
         if start_level.span(granule) < ipa_bits {
             return false;
         }
-        if ipa_bits <= self.below() {
-            return false;
-        }
-        if 0b11 < self.walk_shareability {
-            return false;
-        }
-        if 0b11 < self.walk_inner {
-            return false;
-        }
-        self.walk_outer <= 0b11
+        self.below() < ipa_bits
     }
 
     // Bits of the address that the walk resolves below its start level.
@@ -384,71 +300,4 @@ impl Stage2Regime {
         }
         Determined::Value(size)
     }
-}
-
-// The VTCR_EL2 value of a regime: DS, HA and HD stay clear.
-pub fn vtcr_el2(regime: Stage2Regime, vmid_bits: VmidBits) -> Vtcr
-    ensures { λ r. ⌜ r ≡ vtcrOf regime «vmid_bits» ⌝ }
-{
-    if !regime.valid() {
-        return Vtcr::Invalid;
-    }
-    let granule = regime.granule;
-    let start_level = regime.start_level;
-    let pa_size = regime.pa_size;
-    let fields = VtcrFields {
-        t0sz: 64 - regime.ipa_bits as u64,
-        sl0: start_level.sl0(),
-        irgn0: regime.walk_inner,
-        orgn0: regime.walk_outer,
-        sh0: regime.walk_shareability,
-        tg0: granule.tg0(),
-        ps: pa_size.ps(),
-        vs: vmid_bits.vs(),
-        res1: 1,
-        ds: 0,
-    };
-    Vtcr::Value(fields.join())
-}
-
-// The value that the board is given.
-pub fn baleen_vtcr_el2() -> Vtcr
-    ensures { λ r. ⌜ r ≡ Vtcr.Value 0x8002_3559 ⌝ }
-{
-    vtcr_el2(BALEEN_STAGE2, BALEEN_VMID_BITS)
-}
-
-// The regime that a VTCR_EL2 value names, if the encoder could have made it.
-pub fn decode_vtcr_el2(v: u64) -> DecodedVtcr
-    ensures { λ r. ⌜ r ≡ decodedVtcr v ⌝ }
-{
-    let fields = VtcrFields::of(v);
-    if fields.res1 != 1 {
-        return DecodedVtcr::Nothing;
-    }
-    if fields.ds != 0 {
-        return DecodedVtcr::Nothing;
-    }
-    fields.regime()
-}
-
-// The VTTBR_EL2 value for a table set: the level 1 table's address with the VMID above it.
-pub fn vttbr(l1_pa: u64, vmid: u64) -> u64
-    ensures { λ r. ⌜ r ≡ vttbrOf «l1_pa» vmid ⌝ }
-{
-    l1_pa | (vmid << 48)
-}
-
-// The table that a VTTBR_EL2 value names.
-pub fn vttbr_table(vttbr: u64) -> u64
-    ensures { λ r. ⌜ r ≡ baddr vttbr ⌝ }
-{
-    vttbr % 0x1_0000_0000_0000
-}
-
-// The VMID that the regime tags with.
-pub fn vttbr_vmid(vttbr: u64, bits: VmidBits) -> u16
-    ensures { λ r. ⌜ r ≡ vmidOf vttbr bits ⌝ }
-{
-    (vttbr / 0x1_0000_0000_0000 % bits.count() as u64) as u16
 }

@@ -9,8 +9,7 @@ use hv_s2::leafmap::Perm;
 
 use crate::function::{Answer, Fault, Function, Layer};
 use crate::inputs::{
-    changed, every, few_codes, many_codes, one, random, random_codes, twice_changed, words, Random,
-    Words,
+    changed, many_codes, one, random, twice_changed, words, Random, Words, NOTHING,
 };
 use crate::port;
 
@@ -33,7 +32,7 @@ const FUNCTIONS: &[Function] = &[
         name: "perm",
         op: PERM,
         original: perm,
-        boundary: || Box::new(perms(few_codes())),
+        boundary: || Box::new(perms([0, 1, 2, 3, 4, (1 << 32) + 1, u64::MAX].into_iter())),
         sweep: |scale| Box::new(perms(many_codes(scale))),
         answers: PERM_ANSWERS,
         recorded: true,
@@ -44,17 +43,22 @@ const FUNCTIONS: &[Function] = &[
     decoder("decode_page", DECODE_PAGE, page, LEAF_ANSWERS),
     decoder("decode_block", DECODE_BLOCK, block, LEAF_ANSWERS),
     decoder("decode_table", DECODE_TABLE, table, TABLE_ANSWERS),
-    decoder("decode_device_block", DECODE_DEVICE_BLOCK, device, DEVICE_ANSWERS),
+    decoder(
+        "decode_device_block",
+        DECODE_DEVICE_BLOCK,
+        device,
+        DEVICE_ANSWERS,
+    ),
 ];
 
-/// Constants: the input does not matter, whatever it is.
+/// Constants: the answer is the same for any input.
 const fn of_nothing(name: &'static str, op: u32, original: fn(&Words) -> Words) -> Function {
     Function {
         name,
         op,
         original,
         boundary: || Box::new([[0; 8], [u64::MAX; 8]].into_iter()),
-        sweep: |scale| Box::new(random(2, 1_000 * scale, Random::words)),
+        sweep: |scale| Box::new(random(Random(3), 1_000 * scale, Random::words)),
         answers: &[("eight words", |answer| !answer.contains(&0))],
         recorded: true,
     }
@@ -117,7 +121,7 @@ fn perm(x: &Words) -> Words {
         1 => Perm::Ro,
         2 => Perm::Rw,
         3 => Perm::Rx,
-        _ => return words([]),
+        _ => return NOTHING,
     };
     let wx_exempt = x[1] != 0;
     let (access, xn) = leaf_access_xn(perm, wx_exempt);
@@ -144,7 +148,7 @@ fn memory_type(x: &Words) -> Words {
         0 => MemoryType::NormalWbIsh,
         1 => MemoryType::NormalNonCacheable,
         2 => MemoryType::DeviceNGnRnE,
-        _ => return words([]),
+        _ => return NOTHING,
     };
     words([
         1,
@@ -181,11 +185,11 @@ fn emitted_words(_: &Words) -> Words {
 }
 
 fn page(x: &Words) -> Words {
-    decode_page(x[0]).map_or(words([]), leaf)
+    decode_page(x[0]).map_or(NOTHING, leaf)
 }
 
 fn block(x: &Words) -> Words {
-    decode_block(x[0]).map_or(words([]), leaf)
+    decode_block(x[0]).map_or(NOTHING, leaf)
 }
 
 fn leaf(decoded: Decoded) -> Words {
@@ -193,13 +197,11 @@ fn leaf(decoded: Decoded) -> Words {
 }
 
 fn table(x: &Words) -> Words {
-    decode_table(x[0]).map_or(words([]), |pa| words([1, pa]))
+    decode_table(x[0]).map_or(NOTHING, |pa| words([1, pa]))
 }
 
 fn device(x: &Words) -> Words {
-    decode_device_block(x[0]).map_or(words([]), |decoded| {
-        words([1, decoded.pa, decoded.xn.into()])
-    })
+    decode_device_block(x[0]).map_or(NOTHING, |decoded| words([1, decoded.pa, decoded.xn.into()]))
 }
 
 /// Every word that is emitted, as yet without an address.
@@ -228,7 +230,7 @@ const ADDRESSES: [u64; 9] = [
     desc::ADDR_4K,
 ];
 
-/// Bits of each field that a decoder reads or must not read.
+/// Bits at the ends of the fields that a decoder reads, and just past them.
 const FIELD_BITS: [u64; 10] = [0, 1, 2, 5, 6, 7, 47, 48, 53, 54];
 
 fn perms(codes: impl Iterator<Item = u64>) -> impl Iterator<Item = Words> {
@@ -238,29 +240,140 @@ fn perms(codes: impl Iterator<Item = u64>) -> impl Iterator<Item = Words> {
 }
 
 fn descriptor_boundary() -> impl Iterator<Item = u64> {
-    let ends = EMITTED.into_iter().flat_map(|word| [word, word | desc::ADDR_4K]);
+    let ends = EMITTED
+        .into_iter()
+        .flat_map(|word| [word, word | desc::ADDR_4K]);
     let changed = EMITTED
         .into_iter()
         .flat_map(|word| FIELD_BITS.map(|bit| (word | 0x6040_0000) ^ (1 << bit)));
     [0, u64::MAX].into_iter().chain(ends).chain(changed)
 }
 
-fn descriptors(scale: u64) -> impl Iterator<Item = u64> {
-    let near_emitted = emitted().flat_map(|word| {
-        [word].into_iter().chain(changed(word)).chain(twice_changed(word))
-    });
-    near_emitted
+fn descriptors(scale: usize) -> impl Iterator<Item = u64> {
+    let emitted = addresses().flat_map(|address| EMITTED.map(|word| word | address));
+    emitted
+        .flat_map(|word| changed(word).chain(twice_changed(word)))
         .chain(low_patterns())
-        .chain(random_descriptors(500_000 * scale))
-        .chain(Random(4).take(1_000_000 * scale))
+        .chain(random(Random(4), 500_000 * scale, mutated))
+        .chain(Random(5).take(1_000_000 * scale))
 }
 
-/// Every emitted word at every address, random aligned ones included.
-fn emitted() -> impl Iterator<Item = u64> {
-    let mut random = Random(3);
-    let addresses: Vec<u64> = ADDRESSES
-        .into_iter()
-        .chain((0..16).map(|_| random.word() & desc::ADDR_4K))
-        .chain((0..16).map(|_| random.word() & desc::ADDR_2M))
-        .collect();
+/// The fixed addresses, and random ones of pages and of blocks.
+fn addresses() -> impl Iterator<Item = u64> {
+    let aligned = |word| [word & desc::ADDR_4K, word & desc::ADDR_2M];
+    let random = Random(6).take(16).flat_map(aligned);
+    ADDRESSES.into_iter().chain(random)
 }
+
+/// All values of the twelve low bits, with and without the execute-never bit and its neighbour.
+fn low_patterns() -> impl Iterator<Item = u64> {
+    let high = [0, 1 << 53, 1 << 54, 3 << 53];
+    let above = high
+        .into_iter()
+        .flat_map(|high| ADDRESSES.map(|address| high | address));
+    above.flat_map(|above| (0..1 << 12).map(move |low| above | low))
+}
+
+/// An emitted word at a random address, with a few bits changed.
+fn mutated(random: &mut Random) -> u64 {
+    (random.pick(&EMITTED) | random.word() & desc::ADDR_4K) ^ random.sparse()
+}
+
+const FAULTS: &[Fault] = &[
+    Fault {
+        name: "read-only-exempt",
+        slip: "the exemption makes a read-only block executable",
+        op: PERM,
+        alter: |x, answer| {
+            if x[0] == 1 && x[1] != 0 {
+                answer[3] &= !desc::XN;
+                answer[5] = 0;
+            }
+        },
+    },
+    Fault {
+        name: "device-shareable",
+        slip: "device memory is marked inner shareable",
+        op: MEMORY_TYPE,
+        alter: |x, answer| {
+            if x[0] == 2 {
+                answer[2] = 0b11 << 8;
+                answer[3] = 0b11 << 8;
+            }
+        },
+    },
+    Fault {
+        name: "word-left-unwritten",
+        slip: "the last word of the answer is not written",
+        op: CONSTANTS,
+        alter: |_, answer| answer[7] = port::UNWRITTEN,
+    },
+    Fault {
+        name: "device-block-cacheable",
+        slip: "the device block is given the memory type of a data block",
+        op: WORDS,
+        alter: |_, answer| answer[7] |= 0b1111 << 2,
+    },
+    Fault {
+        name: "s2ap-10-as-rw",
+        slip: "the reserved access 10 is read as read-write",
+        op: DECODE_PAGE,
+        alter: |x, answer| {
+            if (x[0] >> 6) & 0b11 == 0b10 {
+                *answer = port::answer(DECODE_PAGE, &one(x[0] | 1 << 6));
+            }
+        },
+    },
+    Fault {
+        name: "page-address-without-bit-47",
+        slip: "the address field of a page is one bit short",
+        op: DECODE_PAGE,
+        alter: |_, answer| answer[1] &= !(1 << 47),
+    },
+    Fault {
+        name: "xn-from-bit-53",
+        slip: "execute never is read one bit too low",
+        op: DECODE_PAGE,
+        alter: |x, answer| answer[3] = answer[0] & (x[0] >> 53),
+    },
+    Fault {
+        name: "block-of-type-11",
+        slip: "a block is decoded although its type is a table's",
+        op: DECODE_BLOCK,
+        alter: |x, answer| {
+            if x[0] & 0b11 == 0b11 {
+                *answer = port::answer(DECODE_BLOCK, &one(x[0] ^ 0b10));
+            }
+        },
+    },
+    Fault {
+        name: "block-at-a-page",
+        slip: "the address field of a block starts at bit 12",
+        op: DECODE_BLOCK,
+        alter: |x, answer| {
+            if answer[0] == 1 {
+                answer[1] = x[0] & desc::ADDR_4K;
+            }
+        },
+    },
+    Fault {
+        name: "table-address-with-bit-48",
+        slip: "the address field of a table is one bit long",
+        op: DECODE_TABLE,
+        alter: |x, answer| {
+            if answer[0] == 1 {
+                answer[1] |= x[0] & 1 << 48;
+            }
+        },
+    },
+    Fault {
+        name: "device-with-memattr-1",
+        slip: "memory type 1 is read as device memory",
+        op: DECODE_DEVICE_BLOCK,
+        alter: |x, answer| {
+            if (x[0] >> 2) & 0b1111 == 1 {
+                *answer = port::answer(DECODE_DEVICE_BLOCK, &one(x[0] ^ 1 << 2));
+            }
+        },
+    },
+];

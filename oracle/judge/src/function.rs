@@ -13,7 +13,7 @@ pub struct Function {
     /// Inputs around which the answer changes. They are few: all of them are recorded.
     pub boundary: fn() -> Inputs,
     /// All other inputs, with the number of random ones multiplied as given.
-    pub sweep: fn(u64) -> Inputs,
+    pub sweep: fn(usize) -> Inputs,
     /// The kinds of answer, each of which some input must bring about.
     pub answers: &'static [Answer],
     /// Whether the answers are the original's alone and can be recorded.
@@ -67,7 +67,7 @@ impl Function {
         }
     }
 
-    pub fn inputs(&self, scale: u64) -> impl Iterator<Item = Words> {
+    pub fn inputs(&self, scale: usize) -> impl Iterator<Item = Words> {
         (self.boundary)().chain((self.sweep)(scale))
     }
 }

@@ -3,6 +3,9 @@
 /// The eight words of a call, and the eight of its answer.
 pub type Words = [u64; 8];
 
+/// The answer of a function that has none for its input.
+pub const NOTHING: Words = [0; 8];
+
 pub type Inputs = Box<dyn Iterator<Item = Words>>;
 
 /// Fills up with zeros: a word that is not used is zero.
@@ -40,20 +43,31 @@ impl Random {
         from[self.below(from.len() as u64) as usize]
     }
 
-    /// A word in which about one bit of eight is set.
+    /// A word in which about four bits are set.
     pub fn sparse(&mut self) -> u64 {
-        self.word() & self.word() & self.word()
+        self.word() & self.word() & self.word() & self.word()
+    }
+
+    pub fn words(&mut self) -> Words {
+        std::array::from_fn(|_| self.word())
+    }
+}
+
+impl Iterator for Random {
+    type Item = u64;
+
+    fn next(&mut self) -> Option<u64> {
+        Some(self.word())
     }
 }
 
 /// As many inputs as asked for, each made from the generator.
-pub fn random(
-    seed: u64,
-    count: u64,
-    make: impl Fn(&mut Random) -> Words + 'static,
-) -> impl Iterator<Item = Words> {
-    let mut random = Random(seed);
-    (0..count).map(move |_| make(&mut random))
+pub fn random<T>(
+    mut source: Random,
+    count: usize,
+    make: impl Fn(&mut Random) -> T,
+) -> impl Iterator<Item = T> {
+    (0..count).map(move |_| make(&mut source))
 }
 
 /// Every input whose words are taken from the eight lists.
@@ -70,24 +84,25 @@ pub fn every(choices: [Vec<u64>; 8]) -> impl Iterator<Item = Words> {
     })
 }
 
-/// The word with each of its bits changed.
+/// The word as it is and with any one bit changed.
 pub fn changed(word: u64) -> impl Iterator<Item = u64> {
-    (0..64).map(move |bit| word ^ (1 << bit))
+    let bits = (0..64).map(move |bit| word ^ (1 << bit));
+    [word].into_iter().chain(bits)
 }
 
-/// The word with every two of its bits changed.
+/// The word with any two bits changed.
 pub fn twice_changed(word: u64) -> impl Iterator<Item = u64> {
     (1..64).flat_map(move |high| (0..high).map(move |low| word ^ (1 << high) ^ (1 << low)))
 }
 
-/// Codes at the edge of a small enumeration, also with bits above the low 32.
+/// The codes of a small enumeration and the next ones, also with bits above a byte and above 32.
 pub fn few_codes() -> impl Iterator<Item = u64> {
     let wide = (0..=6).map(|code| code + (1 << 32));
-    (0..=8).chain([255, 256]).chain(wide).chain([u64::MAX])
+    (0..=7).chain([256 + 2]).chain(wide).chain([u64::MAX])
 }
 
 /// The codes of a byte, those around every power of two above, and random ones.
-pub fn many_codes(scale: u64) -> impl Iterator<Item = u64> {
+pub fn many_codes(scale: usize) -> impl Iterator<Item = u64> {
     let around = (8..64).flat_map(|bit| (0..9).map(move |n| (1 << bit) - 1 + n));
     (0..=255)
         .chain(around)
@@ -96,10 +111,9 @@ pub fn many_codes(scale: u64) -> impl Iterator<Item = u64> {
 }
 
 /// Random words, half of which have a small low half.
-fn random_codes(count: u64) -> impl Iterator<Item = u64> {
-    let mut random = Random(1);
-    (0..count).map(move |_| match random.word() {
-        word if word >> 63 == 0 => word << 32 | word & 7,
-        word => word,
+fn random_codes(count: usize) -> impl Iterator<Item = u64> {
+    Random(1).take(count).map(|word| match word >> 63 {
+        0 => word << 32 | word & 7,
+        _ => word,
     })
 }

@@ -1,1 +1,83 @@
-fn main(){}
+//! Compares the port with its Rust original, compiled unchanged.
+
+mod absent;
+mod compare;
+mod desc;
+mod function;
+mod inputs;
+mod p2m;
+mod port;
+mod record;
+mod regime;
+mod self_test;
+mod tally;
+mod undefined;
+
+use std::env;
+use std::process::ExitCode;
+
+use function::Fault;
+
+const USAGE: &str =
+    "usage: judge compare [--long] [--fault N] | self-test | record DIR | check-record DIR";
+
+fn main() -> ExitCode {
+    undefined::quieten();
+    let arguments: Vec<String> = env::args().skip(1).collect();
+    let arguments: Vec<&str> = arguments.iter().map(String::as_str).collect();
+    match run(&arguments) {
+        Ok(()) => ExitCode::SUCCESS,
+        Err(message) => {
+            eprintln!("{message}");
+            ExitCode::FAILURE
+        }
+    }
+}
+
+fn run(arguments: &[&str]) -> Result<(), String> {
+    match arguments {
+        ["compare", options @ ..] => {
+            let Options { scale, fault } = Options::parse(options).ok_or(USAGE)?;
+            compare::compare_all(scale, fault)
+        }
+        ["self-test"] => self_test::self_test(),
+        ["record", folder] => record::write(folder),
+        ["check-record", folder] => record::check(folder),
+        _ => Err(USAGE.into()),
+    }
+}
+
+struct Options {
+    /// By how much the number of random inputs is multiplied.
+    scale: usize,
+    fault: Option<&'static Fault>,
+}
+
+impl Options {
+    fn parse(mut options: &[&str]) -> Option<Self> {
+        let mut parsed = Options {
+            scale: 1,
+            fault: None,
+        };
+        loop {
+            options = match options {
+                [] => return Some(parsed),
+                ["--long", rest @ ..] => {
+                    parsed.scale = 10;
+                    rest
+                }
+                ["--fault", number, rest @ ..] => {
+                    parsed.fault = Some(fault(number)?);
+                    rest
+                }
+                _ => return None,
+            };
+        }
+    }
+}
+
+/// The faults are numbered from 1, in the order of the self-test.
+fn fault(number: &str) -> Option<&'static Fault> {
+    let index = number.parse::<usize>().ok()?.checked_sub(1)?;
+    function::faults().nth(index)
+}

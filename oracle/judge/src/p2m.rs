@@ -5,9 +5,7 @@ use hv_core::p2m::{DomId, Mfn, PageType, PtLevel, System};
 use hv_s2::leafmap::{span_of_table, Span};
 
 use crate::function::{Answer, Fault, Function, Layer};
-use crate::inputs::{
-altered, every, random, words, Random, Words,
-};
+use crate::inputs::{altered, every, random, words, Random, Words, NOTHING};
 use crate::port;
 
 const FRAME: u32 = 0;
@@ -89,7 +87,7 @@ fn asked(x: &Words) -> Option<Row> {
     rows(x).get(x[7] as u32 as usize).copied()
 }
 
-/// The original types a frame for its owner only.
+/// Whether the original can hold these rows: it gives a type to owned frames only.
 fn representable(x: &Words) -> bool {
     rows(x)
         .iter()
@@ -107,7 +105,7 @@ fn frame(x: &Words) -> Words {
     words([owner(&system, mfn), kind(x), span])
 }
 
-/// Only the owner is the original's: the span goes by the row's kind, as it does for owned frames.
+/// Only the owner is the original's. The span goes by the kind, as it does where there is an owner.
 fn unowned_frame(x: &Words) -> Words {
     let span = match kind(x) {
         2 => 1,
@@ -121,6 +119,7 @@ fn owner(system: &System, mfn: Mfn) -> u64 {
     system.owner_of(mfn).map_or(NOBODY, u64::from)
 }
 
+/// The row's own: the original has types and no numbers for them.
 fn kind(x: &Words) -> u64 {
     asked(x).map_or(0, |row| row.kind.into())
 }
@@ -147,7 +146,7 @@ fn allocate(system: &mut System, owner: DomId, mfn: Mfn, kind: u32) {
 
 fn level(x: &Words) -> Words {
     let Some(level) = level_of(x[0] as u32) else {
-        return words([]);
+        return NOTHING;
     };
     words([
         kind_of(level),
@@ -195,15 +194,19 @@ fn code_of(page_type: PageType) -> u64 {
 
 /// Owner numbers at both ends of the domains, and numbers that are such modulo 2^32.
 fn owners() -> Vec<u64> {
-    let numbers = [0, 1, 65_534, 65_535, 65_536, 65_537, 1 << 31, (1 << 32) - 1];
-    let wide = [0, 65_535, 65_536].map(|number| number + (1 << 32));
-    [&numbers[..], &wide, &[u64::MAX]].concat()
+    let wide = 1 << 32;
+    let numbers = [0, 1, 65_534, 65_535, 65_536, 65_537, 1 << 31, wide - 1];
+    let wide = [wide, wide + 65_535, wide + 65_536, u64::MAX];
+    numbers.into_iter().chain(wide).collect()
 }
 
+/// The kinds of a byte, and numbers that are kinds modulo 2^16 or 2^32.
 fn kinds() -> Vec<u64> {
-    let wide = [1 << 16, 1 << 32].map(|high| (0..=6).map(move |kind| high + kind));
-    let wide = wide.into_iter().flatten();
-    (0..=255).chain(wide).chain([(1 << 32) - 1, u64::MAX]).collect()
+    let high = [1 << 16, 1 << 32, u64::MAX - 6];
+    let wide = high
+        .into_iter()
+        .flat_map(|high| (0..=6).map(move |kind| high + kind));
+    (0..=255).chain(wide).collect()
 }
 
 fn counts() -> Vec<u64> {
@@ -212,18 +215,19 @@ fn counts() -> Vec<u64> {
 
 /// Frames in and past a list, and numbers that are such modulo 2^32.
 fn places() -> Vec<u64> {
-    vec![0, 1, 2, 3, 4, (1 << 32) - 1, 1 << 32, (1 << 32) + 1, u64::MAX]
+    let wide = 1 << 32;
+    vec![0, 1, 2, 3, 4, wide - 1, wide, wide + 1, u64::MAX]
 }
 
-/// Lists that start with a row of these, followed by an L2 table and a frame of nobody.
+/// Lists that start with one of these rows, followed by an L2 table and a frame of nobody.
 fn lists(
     owners: Vec<u64>,
     kinds: Vec<u64>,
     counts: Vec<u64>,
     places: Vec<u64>,
 ) -> impl Iterator<Item = Words> {
-    let [owner, kind, nobody, none] = [7, 3, NOBODY, 0].map(|number| vec![number]);
-    every([owners, kinds, owner, kind, nobody, none, counts, places])
+    let [owner, l2, nobody, untyped] = [7, 3, NOBODY, 0].map(|number| vec![number]);
+    every([owners, kinds, owner, l2, nobody, untyped, counts, places])
 }
 
 fn frame_boundary() -> impl Iterator<Item = Words> {
@@ -231,28 +235,17 @@ fn frame_boundary() -> impl Iterator<Item = Words> {
     rows.chain(lists(vec![65_535], vec![2], counts(), places()))
 }
 
-fn frames(scale: u64) -> impl Iterator<Item = Words> {
-    let swept = lists(owners(), kinds(), counts(), places());
-    // Each row of the list has its turn at each place.
+fn frames(scale: usize) -> impl Iterator<Item = Words> {
+    // Each row has its turn at each place of the list.
     let turned = |x| (0..3).map(move |by| altered(x, |x| x[..6].rotate_right(2 * by)));
-    swept
+    lists(owners(), kinds(), counts(), places())
         .flat_map(turned)
-        .chain(random(1, 200_000 * scale, random_list))
+        .chain(random(Random(2), 200_000 * scale, random_list))
 }
 
 fn random_list(random: &mut Random) -> Words {
-    let mut row = || [random.below(2 * NOBODY), random.below(8)];
-    let [a, b, c] = [row(), row(), row()];
-    words([
-        a[0],
-        a[1],
-        b[0],
-        b[1],
-        c[0],
-        c[1],
-        random.below(5),
-        random.below(5),
-    ])
+    // Three rows of owner number and kind, their count and a frame.
+    [2 * NOBODY, 8, 2 * NOBODY, 8, 2 * NOBODY, 8, 5, 5].map(|bound| random.below(bound))
 }
 
 const FAULTS: &[Fault] = &[

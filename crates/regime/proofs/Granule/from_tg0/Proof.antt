@@ -1,7 +1,7 @@
 -- `Granule::from_tg0` meets its contract: each arm knows the code, and the last that it is none of them.
 use mathlib.Core.Path.{sym, ap}
 use borrow.Author.Tests.{ne-eqb}
-use Rattle.regime.specs.Vtcr.{granuleNamed}
+use Rattle.regime.specs.Codes.{granuleNamed}
 use Rattle.regime.proofs.Granule.from_tg0.Statement.{statement}
 use Rattle.regime.proofs.Granule.from_tg0.Tie as tie
 

@@ -1,7 +1,7 @@
 -- `PaSize::from_ps` meets its contract: each arm knows the code, and the last that it is none of them.
 use mathlib.Core.Path.{sym, ap}
 use borrow.Author.Tests.{ne-eqb}
-use Rattle.regime.specs.Vtcr.{sizeNamed}
+use Rattle.regime.specs.Codes.{sizeNamed}
 use Rattle.regime.proofs.PaSize.from_ps.Statement.{statement}
 use Rattle.regime.proofs.PaSize.from_ps.Tie as tie
 

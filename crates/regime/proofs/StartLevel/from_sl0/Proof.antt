@@ -1,7 +1,7 @@
 -- `StartLevel::from_sl0` meets its contract: each arm knows the code, and the last that it is none of them.
 use mathlib.Core.Path.{sym, ap}
 use borrow.Author.Tests.{ne-eqb}
-use Rattle.regime.specs.Vtcr.{levelNamed}
+use Rattle.regime.specs.Codes.{levelNamed}
 use Rattle.regime.proofs.StartLevel.from_sl0.Statement.{statement}
 use Rattle.regime.proofs.StartLevel.from_sl0.Tie as tie
 

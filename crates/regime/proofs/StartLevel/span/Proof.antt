@@ -2,6 +2,7 @@
 use native.Mathlib.Omega.{arith}
 use Rattle.regime.proofs.Bounds.{number-range, span-range}
 use borrow.Author.Needs.{needs}
+use Rattle.regime.specs.Regime.{span}
 use Rattle.regime.proofs.StartLevel.span.Statement.{statement}
 use Rattle.regime.proofs.StartLevel.span.Tie as tie
 
@@ -18,18 +19,21 @@ level-bits-requires : tie.Need-level-bits-requires
 level-bits-requires c κs = search needs
 
 mul-result : tie.Need-mul-result
+unfolding span
 mul-result c =
     let a = c .before .before .before .args in
     rw (c .before .number .ensures, c .level-bits .ensures)
     (record { fits = omega (arith, span-range (a .self) (a .granule)) })
 
 add-result : tie.Need-add-result
+unfolding span
 add-result c =
     let a = c .before .before .before .args in
     rw (c .before .before .page-bits .ensures, c .before .number .ensures, c .level-bits .ensures)
     (record { fits = omega (arith, span-range (a .self) (a .granule)) })
 
 returns : tie.Need-returns
+unfolding span
 returns c = rw (c .before .before .page-bits .ensures, c .before .number .ensures, c .level-bits .ensures)
 
 pub span-spec : {M : Type 1} → statement M

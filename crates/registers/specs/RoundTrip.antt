@@ -2,14 +2,14 @@
 use Prim.Native.Nat.{ℕ, _^_, _<_}
 use mathlib.Core.Path.{_≡_}
 use mathlib.Core.Bool.{true}
-use Rattle.regime.specs.declared.DecodedVtcr.the-variants.{Regime}
+use Rattle.registers.specs.declared.DecodedVtcr.the-variants.{Regime}
 use Rattle.regime.specs.declared.Stage2Regime.{Stage2Regime}
 use Rattle.regime.specs.declared.VmidBits.{VmidBits}
 use Rattle.regime.specs.declared.VmidBits.the-variants.{B8}
-use Rattle.regime.specs.declared.Vtcr.the-variants.{Value}
+use Rattle.registers.specs.declared.Vtcr.the-variants.{Value}
 use Rattle.regime.specs.Regime.{vmids, validRegime, baleenStage2}
-use Rattle.regime.specs.Vtcr.{vtcrOf, decodedVtcr}
-use Rattle.regime.specs.Vttbr.{vttbrOf, baddr, vmidOf}
+use Rattle.registers.specs.Vtcr.{vtcrOf, decodedVtcr}
+use Rattle.registers.specs.Vttbr.{vttbrOf, baddr, vmidOf}
 
 -- every valid regime has a value, which decodes to it
 abbrev pub VtcrRoundTrip : Type 0

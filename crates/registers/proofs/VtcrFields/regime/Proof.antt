@@ -1,13 +1,14 @@
 -- `VtcrFields::regime` meets its contract: each look-up decides what the fields name so far.
 use mathlib.Core.Path.{_≡_, _∙_, sym, ap}
 use borrow.Author.Needs.{needs}
-use Rattle.regime.specs.declared.DecodedVtcr.the-variants.{Regime}
+use Rattle.registers.specs.declared.DecodedVtcr.the-variants.{Regime}
 use Rattle.regime.specs.declared.GranuleNamed.the-variants.{Granule as IsGranule, Reserved as NoGranule}
 use Rattle.regime.specs.declared.LevelNamed.the-variants.{Level, Reserved as NoLevel}
 use Rattle.regime.specs.declared.SizeNamed.the-variants.{Size, Reserved as NoSize}
-use Rattle.regime.specs.Vtcr.{granuleNamed, levelNamed, sizeNamed, regimeWith, regimeNamed}
-use Rattle.regime.proofs.VtcrFields.regime.Statement.{statement}
-use Rattle.regime.proofs.VtcrFields.regime.Tie as tie
+use Rattle.regime.specs.Codes.{granuleNamed, levelNamed, sizeNamed}
+use Rattle.registers.specs.Vtcr.{regimeWith, regimeNamed}
+use Rattle.registers.proofs.VtcrFields.regime.Statement.{statement}
+use Rattle.registers.proofs.VtcrFields.regime.Tie as tie
 
 granule : (k : tie.After-known-told) → granuleNamed (k .before .before .before .before .args .self .tg0) ≡ IsGranule (k .before .granule .given .0 .0)
 granule k = sym (k .before .before .before .from-tg0 .ensures) ∙ k .before .granule .given .1

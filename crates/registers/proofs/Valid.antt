@@ -4,11 +4,11 @@ use mathlib.Core.Bool.{Bool, true, false, _&&_, false≢true}
 use Prim.Native.Nat.{_≤_, _<_}
 use native.Mathlib.Omega.{arith}
 use borrow.Author.Tests.{leb-true, ltb-true}
 use Rattle.regime.specs.declared.Stage2Regime.{Stage2Regime}
 use Rattle.regime.specs.declared.VmidBits.{VmidBits}
-use Rattle.regime.specs.Regime.{pageBits, validRegime}
-use Rattle.regime.specs.Vtcr.{InRange, fieldsFor}
+use Rattle.regime.specs.Regime.{pageBits, inputFits, validRegime}
+use Rattle.registers.specs.Vtcr.{InRange, fieldsFor}
 use Rattle.regime.proofs.Bounds.{page-range, sl0-range, tg0-range, ps-range, vs-range}
 
 pub record Valid (r : Stage2Regime) : Type 0 where
   pub wide : r .«ipa_bits» ≤ 48
@@ -21,17 +21,23 @@ both : (a b : Bool) → (a && b) ≡ true → (a ≡ true) × (b ≡ true)
 both true b e = (refl, e)
 both false b e = absurd (false≢true e)
 
+input-facts : (r : Stage2Regime) → inputFits r ≡ true → (r .«ipa_bits» ≤ 48) × (pageBits (r .granule) < r .«ipa_bits»)
+unfolding inputFits
+input-facts r e =
+    let l = both _ _ (both _ _ e .0) in
+    let p = both _ _ (l .0) in
+    (leb-true _ _ (p .0), ltb-true _ _ (p .1))
+
 pub facts : (r : Stage2Regime) → validRegime r ≡ true → Valid r
+unfolding validRegime
 facts r e =
     let o = both _ _ e in
     let i = both _ _ (o .0) in
     let h = both _ _ (i .0) in
-    let b = both _ _ (h .0) in
-    let l = both _ _ (b .0) in
-    let p = both _ _ (l .0) in
+    let p = input-facts r (h .0) in
     record {
-      wide = leb-true _ _ (p .0);
-      page = ltb-true _ _ (p .1);
+      wide = p .0;
+      page = p .1;
       shareability = leb-true _ _ (h .1);
       inner = leb-true _ _ (i .1);
       outer = leb-true _ _ (o .1);

@@ -3,8 +3,8 @@ use mathlib.Core.Path.{_≡_}
 use Prim.Native.Nat.{_%_}
 use native.Mathlib.Omega.{arith}
 use Rattle.fields.specs.Bits.{bits}
-use Rattle.regime.proofs.VtcrFields.of.Statement.{statement}
-use Rattle.regime.proofs.VtcrFields.of.Tie as tie
+use Rattle.registers.proofs.VtcrFields.of.Statement.{statement}
+use Rattle.registers.proofs.VtcrFields.of.Tie as tie
 
 returns : tie.Need-returns
 returns c =

@@ -2,11 +2,11 @@
 use mathlib.Core.Path.{_≡_, _∙_, ap}
 use native.Mathlib.Omega.{arith}
 use borrow.Author.Tests.{eq-eqb, ne-eqb}
-use Rattle.regime.specs.declared.DecodedVtcr.the-variants.{Nothing}
-use Rattle.regime.specs.Vtcr.{decodedFields}
+use Rattle.registers.specs.declared.DecodedVtcr.the-variants.{Nothing}
+use Rattle.registers.specs.Vtcr.{decodedFields}
 use borrow.Author.Needs.{needs}
-use Rattle.regime.proofs.decode_vtcr_el2.Statement.{statement}
-use Rattle.regime.proofs.decode_vtcr_el2.Tie as tie
+use Rattle.registers.proofs.decode_vtcr_el2.Statement.{statement}
+use Rattle.registers.proofs.decode_vtcr_el2.Tie as tie
 
 of-requires : tie.Need-of-requires
 of-requires c κs = search needs

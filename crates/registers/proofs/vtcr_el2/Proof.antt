@@ -3,12 +3,12 @@ use mathlib.Core.Path.{_≡_, _∙_, sym, ap}
 use mathlib.Core.Bool.{true}
 use native.Mathlib.Omega.{arith}
 use borrow.Author.Tests.{not-true, not-false}
-use Rattle.regime.specs.declared.Vtcr.the-variants.{Value}
+use Rattle.registers.specs.declared.Vtcr.the-variants.{Value}
 use Rattle.regime.specs.Regime.{validRegime}
-use Rattle.regime.proofs.Valid.{facts, in-range}
+use Rattle.registers.proofs.Valid.{facts, in-range}
 use borrow.Author.Needs.{needs}
-use Rattle.regime.proofs.vtcr_el2.Statement.{statement}
-use Rattle.regime.proofs.vtcr_el2.Tie as tie
+use Rattle.registers.proofs.vtcr_el2.Statement.{statement}
+use Rattle.registers.proofs.vtcr_el2.Tie as tie
 
 -- past the first test the regime is valid
 is-valid : (k : tie.Else1) → validRegime (k .before .before .args .regime) ≡ true

@@ -4,12 +4,12 @@ use Prim.Native.Nat.{ℕ, _/_, _%_, _^_}
 use native.Mathlib.Omega.{arith}
 use native.Mathlib.Nat.{mod-lt}
 use Rattle.fields.specs.Bits.{bits}
 use Rattle.regime.specs.Regime.{vmids}
 use Rattle.regime.proofs.Bounds.{vmids-range}
 use Rattle.fields.specs.Bits.{bits}
 use borrow.Author.Needs.{needs}
-use Rattle.regime.proofs.vttbr_vmid.Statement.{statement}
-use Rattle.regime.proofs.vttbr_vmid.Tie as tie
+use Rattle.registers.proofs.vttbr_vmid.Statement.{statement}
+use Rattle.registers.proofs.vttbr_vmid.Tie as tie
 
 count-requires : tie.Need-count-requires
 count-requires c κs = search needs

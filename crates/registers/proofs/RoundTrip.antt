@@ -6,26 +6,27 @@ use native.Mathlib.Omega.{arith}
 use native.Mathlib.Nat.{mod-eq-of-lt}
 use lib.Bits.{or-shifted-r}
 use Rattle.fields.specs.Bits.{bits}
 use Rattle.regime.specs.declared.Granule.{Granule}
 use Rattle.regime.specs.declared.Granule.the-variants.{K4, K16, K64}
 use Rattle.regime.specs.declared.GranuleNamed.the-variants.{Granule as IsGranule}
 use Rattle.regime.specs.declared.StartLevel.{StartLevel}
 use Rattle.regime.specs.declared.StartLevel.the-variants.{L0, L1, L2, L3}
 use Rattle.regime.specs.declared.LevelNamed.the-variants.{Level}
 use Rattle.regime.specs.declared.PaSize.{PaSize}
 use Rattle.regime.specs.declared.PaSize.the-variants.{B32, B36, B40, B42, B44, B48, B52}
 use Rattle.regime.specs.declared.SizeNamed.the-variants.{Size}
 use Rattle.regime.specs.declared.VmidBits.{VmidBits}
 use Rattle.regime.specs.declared.VmidBits.the-variants.{B8, B16}
 use Rattle.regime.specs.declared.Stage2Regime.{Stage2Regime}
-use Rattle.regime.specs.declared.VtcrFields.{VtcrFields}
-use Rattle.regime.specs.declared.DecodedVtcr.the-variants.{Regime}
-use Rattle.regime.specs.Regime.{validRegime, vmids}
-use Rattle.regime.specs.RoundTrip.{VtcrRoundTrip, BaleenValue, VttbrRoundTrip}
-use Rattle.regime.specs.Vtcr.{tg0, granuleNamed, sl0, levelNamed, ps, sizeNamed, vs, vmidBitsNamed, fieldsOf, InRange, joined, fieldsFor, regimeWith, regimeNamed, decodedFields, decodedVtcr}
-use Rattle.regime.specs.Vttbr.{vttbrOf, baddr, vmidOf}
+use Rattle.registers.specs.declared.VtcrFields.{VtcrFields}
+use Rattle.registers.specs.declared.DecodedVtcr.the-variants.{Regime}
+use Rattle.regime.specs.Regime.{span, below, inputFits, validRegime, vmids}
+use Rattle.registers.specs.RoundTrip.{VtcrRoundTrip, BaleenValue, VttbrRoundTrip}
+use Rattle.regime.specs.Codes.{tg0, granuleNamed, sl0, levelNamed, ps, sizeNamed, vs, vmidBitsNamed}
+use Rattle.registers.specs.Vtcr.{fieldsOf, InRange, joined, fieldsFor, regimeWith, regimeNamed, decodedFields, decodedVtcr}
+use Rattle.registers.specs.Vttbr.{vttbrOf, baddr, vmidOf}
 use Rattle.regime.proofs.Bounds.{vmids-range}
-use Rattle.regime.proofs.Valid.{facts, in-range}
+use Rattle.registers.proofs.Valid.{facts, in-range}
 
 -- the code of a parameter names it
 
@@ -95,7 +96,8 @@ unfolding regimeNamed
 named-back r b e =
     let v = facts r e in
     let i : 64 - (64 - r .«ipa_bits») ≡ r .«ipa_bits» = omega arith in
-    simp (granule-named (r .granule), level-named (r .«start_level»), size-named (r .«pa_size»), i, e, vmid-bits-named b)
+    let k : regimeWith (fieldsFor r b) (r .granule) (r .«start_level») (r .«pa_size») ≡ r = simp i in
+    rw (granule-named (r .granule), level-named (r .«start_level»), size-named (r .«pa_size»), k, e, vmid-bits-named b)
 
 pub vtcr-round-trip : VtcrRoundTrip
 vtcr-round-trip r b e =
@@ -103,6 +105,7 @@ vtcr-round-trip r b e =
     (joined f, rw e, ap decodedFields (fields-back f (in-range r b (facts r e))) ∙ named-back r b e)
 
 pub baleen-value : BaleenValue
+unfolding validRegime inputFits span below
 baleen-value = refl
 
 -- a base below 2 ^ 48 and the shifted VMID have no bit in common

@@ -1,0 +1,18 @@
+// Every function of the lower layers by a number, with eight numbers in and eight out: what the comparison with the Rust links, and
+// what the replay of its recorded answers calls. Nothing else uses it.
+
+// The answer of function `op` at `x`; zeros where there is no such function.
+pub fn answer(op: u32, x: &[u64; 8]) -> [u64; 8] {
+    if op < 4 {
+        return probe_frames::answer(op, x);
+    }
+    if op < 11 {
+        return probe_words::answer(op, x);
+    }
+    probe_regimes::answer(op, x)
+}
+
+#[no_mangle]
+pub extern "C" fn probe(op: u32, x: &[u64; 8], out: &mut [u64; 8]) {
+    *out = answer(op, x);
+}

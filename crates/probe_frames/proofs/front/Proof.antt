@@ -1,0 +1,32 @@
+-- `front` is safe: the front of a slice has the length that was asked for.
+use mathlib.Core.Path.{sym}
+use native.Mathlib.Nat.{le-of-lt}
+use lib.Seq.{length-take-le}
+use borrow.Author.Needs.{needs}
+use Rattle.probe_frames.proofs.front.Statement.{statement}
+use Rattle.probe_frames.proofs.front.Tie as tie
+
+slice-aggregate-frame-numbers : tie.Need-slice-aggregate-frame-numbers
+slice-aggregate-frame-numbers c = sym (length-take-le _ _ (le-of-lt (c .before .if1 .taken)))
+
+frame-numbers-requires : tie.Need-frame-numbers-requires
+frame-numbers-requires c κs = search needs
+
+returns : tie.Need-returns
+returns c = search needs
+
+frame-numbers-requires-2 : tie.Need-frame-numbers-requires-2
+frame-numbers-requires-2 c κs = search needs
+
+returns-2 : tie.Need-returns-2
+returns-2 c = search needs
+
+pub front-spec : {M : Type 1} → statement M
+front-spec =
+    tie.close
+    (tie.spec
+    slice-aggregate-frame-numbers
+    frame-numbers-requires
+    returns
+    frame-numbers-requires-2
+    returns-2)

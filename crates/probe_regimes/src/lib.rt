@@ -1,0 +1,207 @@
+// regime by numbers: each parameter by the code of its field.
+use regime::Determined;
+use regime::Granule;
+use regime::GranuleNamed;
+use regime::LevelNamed;
+use regime::PaSize;
+use regime::SizeNamed;
+use regime::Stage2Regime;
+use regime::StartLevel;
+use regime::VmidBits;
+use registers::DecodedVtcr;
+use registers::Vtcr;
+
+// The width of a VMID by its code.
+enum WidthNamed {
+    Width(VmidBits),
+    Nothing,
+}
+
+enum RegimeNamed {
+    Regime(Stage2Regime),
+    Nothing,
+}
+
+pub fn answer(op: u32, x: &[u64; 8]) -> [u64; 8] {
+    match op {
+        11 => granule(x[0]),
+        12 => start_level(x[0]),
+        13 => pa_size(x[0]),
+        14 => vmid_bits(x[0]),
+        15 => stage2_regime(x),
+        16 => decoded(registers::decode_vtcr_el2(x[0])),
+        17 => [registers::vttbr(x[0], x[1]), 0, 0, 0, 0, 0, 0, 0],
+        18 => vttbr_parts(x[0]),
+        _ => [0; 8],
+    }
+}
+
+fn granule(tg0: u64) -> [u64; 8] {
+    let GranuleNamed::Granule(g) = Granule::from_tg0(tg0) else {
+        return [0; 8];
+    };
+    [
+        1,
+        g.page_bits() as u64,
+        g.level_bits() as u64,
+        g.tg0(),
+        0,
+        0,
+        0,
+        0,
+    ]
+}
+
+fn start_level(sl0: u64) -> [u64; 8] {
+    let LevelNamed::Level(l) = StartLevel::from_sl0(sl0) else {
+        return [0; 8];
+    };
+    [
+        1,
+        l.number() as u64,
+        l.sl0(),
+        l.span(Granule::K4) as u64,
+        l.span(Granule::K16) as u64,
+        l.span(Granule::K64) as u64,
+        0,
+        0,
+    ]
+}
+
+fn pa_size(ps: u64) -> [u64; 8] {
+    let SizeNamed::Size(s) = PaSize::from_ps(ps) else {
+        return [0; 8];
+    };
+    [1, s.ps(), 0, 0, 0, 0, 0, 0]
+}
+
+fn vmid_bits(vs: u64) -> [u64; 8] {
+    let WidthNamed::Width(b) = width_named(vs) else {
+        return [0; 8];
+    };
+    [1, b.vs(), b.count() as u64, 0, 0, 0, 0, 0]
+}
+
+fn width_named(vs: u64) -> WidthNamed {
+    match vs {
+        0 => WidthNamed::Width(VmidBits::B8),
+        1 => WidthNamed::Width(VmidBits::B16),
+        _ => WidthNamed::Nothing,
+    }
+}
+
+// The regime's parameters in the order of the struct, then the width of a VMID.
+fn stage2_regime(x: &[u64; 8]) -> [u64; 8] {
+    let RegimeNamed::Regime(r) = regime_named(x) else {
+        return [0; 8];
+    };
+    let WidthNamed::Width(b) = width_named(x[7]) else {
+        return [0; 8];
+    };
+    let t0sz = r.t0sz();
+    let align = r.table_align();
+    let vtcr = registers::vtcr_el2(r, b);
+    [
+        1,
+        r.valid() as u64,
+        is_determined(t0sz),
+        determined(t0sz),
+        is_determined(align),
+        determined(align),
+        is_encoded(vtcr),
+        encoded(vtcr),
+    ]
+}
+
+fn regime_named(x: &[u64; 8]) -> RegimeNamed {
+    let GranuleNamed::Granule(granule) = Granule::from_tg0(x[0]) else {
+        return RegimeNamed::Nothing;
+    };
+    let LevelNamed::Level(start_level) = StartLevel::from_sl0(x[2]) else {
+        return RegimeNamed::Nothing;
+    };
+    let SizeNamed::Size(pa_size) = PaSize::from_ps(x[3]) else {
+        return RegimeNamed::Nothing;
+    };
+    RegimeNamed::Regime(Stage2Regime {
+        granule,
+        ipa_bits: (x[1] % 0x1_0000_0000) as u32,
+        start_level,
+        pa_size,
+        walk_shareability: x[4],
+        walk_inner: x[5],
+        walk_outer: x[6],
+    })
+}
+
+fn is_determined(d: Determined) -> u64 {
+    match d {
+        Determined::Value(_) => 1,
+        Determined::Undefined => 0,
+    }
+}
+
+fn determined(d: Determined) -> u64 {
+    match d {
+        Determined::Value(n) => n,
+        Determined::Undefined => 0,
+    }
+}
+
+fn is_encoded(v: Vtcr) -> u64 {
+    match v {
+        Vtcr::Value(_) => 1,
+        Vtcr::Invalid => 0,
+    }
+}
+
+fn encoded(v: Vtcr) -> u64 {
+    match v {
+        Vtcr::Value(n) => n,
+        Vtcr::Invalid => 0,
+    }
+}
+
+fn decoded(d: DecodedVtcr) -> [u64; 8] {
+    match d {
+        DecodedVtcr::Regime(r, b) => regime_numbers(r, b),
+        DecodedVtcr::Nothing => [0; 8],
+    }
+}
+
+// One more than the width's code, so that it is not nothing, then the parameters in the order of the struct.
+fn regime_numbers(r: Stage2Regime, b: VmidBits) -> [u64; 8] {
+    let granule = r.granule;
+    let start_level = r.start_level;
+    let pa_size = r.pa_size;
+    [
+        width_number(b),
+        granule.tg0(),
+        r.ipa_bits as u64,
+        start_level.sl0(),
+        pa_size.ps(),
+        r.walk_shareability,
+        r.walk_inner,
+        r.walk_outer,
+    ]
+}
+
+fn width_number(b: VmidBits) -> u64 {
+    match b {
+        VmidBits::B8 => 1,
+        VmidBits::B16 => 2,
+    }
+}
+
+fn vttbr_parts(v: u64) -> [u64; 8] {
+    [
+        registers::vttbr_table(v),
+        registers::vttbr_vmid(v, VmidBits::B8) as u64,
+        registers::vttbr_vmid(v, VmidBits::B16) as u64,
+        0,
+        0,
+        0,
+        0,
+        0,
+    ]
+}

@@ -1,0 +1,87 @@
+// desc by numbers.
+use desc::DecodedBlock;
+use desc::DecodedLeaf;
+use desc::DecodedTable;
+use desc::MemoryType;
+
+pub fn answer(op: u32, x: &[u64; 8]) -> [u64; 8] {
+    match op {
+        4 => memory_type(x[0]),
+        5 => constants(),
+        6 => words(),
+        7 => leaf(desc::decode_page(x[0])),
+        8 => leaf(desc::decode_block(x[0])),
+        9 => table(desc::decode_table(x[0])),
+        _ => device(desc::decode_device_block(x[0])),
+    }
+}
+
+fn memory_type(code: u64) -> [u64; 8] {
+    match code {
+        0 => encodings(MemoryType::NormalWbIsh),
+        1 => encodings(MemoryType::NormalNonCacheable),
+        2 => encodings(MemoryType::DeviceNGnRnE),
+        _ => [0; 8],
+    }
+}
+
+fn encodings(t: MemoryType) -> [u64; 8] {
+    [
+        1,
+        t.stage1_mair_byte() as u64,
+        t.stage2_leaf_bits(),
+        t.shareability_bits(),
+        0,
+        0,
+        0,
+        0,
+    ]
+}
+
+fn constants() -> [u64; 8] {
+    [
+        desc::TABLE,
+        desc::PAGE,
+        desc::BLOCK,
+        desc::AF,
+        desc::S2AP_RW,
+        desc::S2AP_RO,
+        desc::XN,
+        desc::LEAF_COMMON,
+    ]
+}
+
+fn words() -> [u64; 8] {
+    [
+        desc::BLOCK_ROX,
+        desc::PAGE_RW,
+        desc::PAGE_RO,
+        desc::PAGE_RX,
+        desc::BLOCK_RW,
+        desc::BLOCK_RO,
+        desc::BLOCK_RW_X,
+        desc::BLOCK_DEVICE,
+    ]
+}
+
+fn leaf(l: DecodedLeaf) -> [u64; 8] {
+    let DecodedLeaf::Leaf(d) = l else {
+        return [0; 8];
+    };
+    let perm = d.perm;
+    [1, d.pa, perm.code() as u64, d.xn as u64, 0, 0, 0, 0]
+}
+
+fn table(t: DecodedTable) -> [u64; 8] {
+    let DecodedTable::At(pa) = t else {
+        return [0; 8];
+    };
+    [1, pa, 0, 0, 0, 0, 0, 0]
+}
+
+fn device(b: DecodedBlock) -> [u64; 8] {
+    let DecodedBlock::Device(d) = b else {
+        return [0; 8];
+    };
+    [1, d.pa, d.xn as u64, 0, 0, 0, 0, 0]
+}

@@ -1,0 +1,3 @@
+pub mod RoundTrip
+pub mod Vtcr
+pub mod Vttbr
