@@ -6,13 +6,13 @@ use mathlib.Core.Bool.{Bool, true, false}
 use native.Mathlib.Omega.{arith}
 use lib.Dec.{eqb}
 use borrow.Author.Tests.{eq-eqb}
-use Rattle.p2m.specs.declared.Perm.{Perm}
-use Rattle.p2m.specs.declared.Perm.the-variants.{Ro, Rw, Rx}
+use Rattle.perm.specs.declared.Perm.{Perm}
+use Rattle.perm.specs.declared.Perm.the-variants.{Ro, Rw, Rx}
 use Rattle.desc.specs.declared.AccessXn.{AccessXn}
 use Rattle.desc.specs.declared.Access.the-variants.{Perm as Grants}
 use Rattle.desc.specs.declared.DecodedTable.the-variants.{At}
 use Rattle.desc.specs.declared.DecodedBlock.the-variants.{Device}
-use Rattle.desc.specs.declared.MemoryType.the-variants.{NormalWbIsh}
+use Rattle.memtype.specs.declared.MemoryType.the-variants.{NormalWbIsh}
 use Rattle.desc.specs.Decoded.{decodedPage, decodedBlock, decodedTable, decodedDevice, leafAt, accessNamed, s2apOf}
 use Rattle.desc.specs.Descriptor.{descriptorType, blockType, tableType, pageType, memAttr, s2ap, executeNever, xn, pageAddress, blockAddress}
 use Rattle.desc.specs.Emitted.{bit, Exactly, leafFields, WordFields, EmittedDecodes, Output, leafWith, readExecute, readWrite}

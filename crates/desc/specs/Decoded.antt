@@ -4,8 +4,8 @@ use mathlib.Core.Bool.{Bool}
 use mathlib.Core.List.{List, [], _∷_}
 use lib.Dec.{eqb}
 use Rattle.fields.specs.Named.{pick, named}
-use Rattle.p2m.specs.declared.Perm.{Perm}
-use Rattle.p2m.specs.declared.Perm.the-variants.{Ro, Rw, Rx}
+use Rattle.perm.specs.declared.Perm.{Perm}
+use Rattle.perm.specs.declared.Perm.the-variants.{Ro, Rw, Rx}
 use Rattle.desc.specs.declared.Access.{Access}
 use Rattle.desc.specs.declared.Access.the-variants.{Perm as Grants, Nothing as NoAccess}
 use Rattle.desc.specs.declared.DecodedLeaf.{DecodedLeaf}

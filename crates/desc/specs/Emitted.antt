@@ -2,18 +2,18 @@
 use Prim.Native.Nat.{ℕ, _+_, _%_, _^_, _<_}
 use mathlib.Core.Path.{_≡_}
 use mathlib.Core.Bool.{Bool, true, false}
-use Rattle.p2m.specs.declared.Perm.{Perm}
-use Rattle.p2m.specs.declared.Perm.the-variants.{Ro, Rw}
+use Rattle.perm.specs.declared.Perm.{Perm}
+use Rattle.perm.specs.declared.Perm.the-variants.{Ro, Rw}
 use Rattle.desc.specs.declared.AccessXn.{AccessXn}
 use Rattle.desc.specs.declared.DecodedLeaf.{DecodedLeaf}
 use Rattle.desc.specs.declared.DecodedLeaf.the-variants.{Leaf}
 use Rattle.desc.specs.declared.DecodedTable.the-variants.{At}
 use Rattle.desc.specs.declared.DecodedBlock.the-variants.{Device}
-use Rattle.desc.specs.declared.MemoryType.{MemoryType}
-use Rattle.desc.specs.declared.MemoryType.the-variants.{NormalWbIsh, DeviceNGnRnE}
+use Rattle.memtype.specs.declared.MemoryType.{MemoryType}
+use Rattle.memtype.specs.declared.MemoryType.the-variants.{NormalWbIsh, DeviceNGnRnE}
 use Rattle.desc.specs.Decoded.{s2apOf, decodedPage, decodedBlock, decodedTable, decodedDevice}
 use Rattle.desc.specs.Descriptor.{Fields, fieldsOf, joined, blockType, tableType, pageType}
-use Rattle.desc.specs.Memory.{memAttrOf, shOf}
+use Rattle.memtype.specs.Memory.{memAttrOf, shOf}
 use Rattle.desc.specs.Words.{tableWord, pageWord, blockWord, imageWord, deviceWord, leafAccessXn}
 
 -- read-only and executable, as the image is

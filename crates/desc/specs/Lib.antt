@@ -1,5 +1,4 @@
 pub mod Decoded
 pub mod Descriptor
 pub mod Emitted
-pub mod Memory
 pub mod Words

@@ -1,20 +1,10 @@
-// AArch64 stage-2 descriptors at a 4 KB granule (hv-s2's arm64.rs): memory types, the words that are emitted and the decoders that
-// read any word back.
-use p2m::Perm;
+// AArch64 stage-2 descriptors at a 4 KB granule (hv-s2's arm64.rs): the words that are emitted, and the decoders that read
+// any word back.
+use perm::Perm;
 ghost use mathlib.Core.Path.{_≡_};
-ghost use Rattle.desc.specs.Memory.{mairByte, leafBits, shareabilityBits};
 ghost use Rattle.desc.specs.Words.{tableWord, pageWord, blockWord, imageWord, deviceWord, leafAccessXn};
 ghost use Rattle.desc.specs.Descriptor.{pageAddress, blockAddress, executeNever};
 ghost use Rattle.desc.specs.Decoded.{accessOf, leafAt, decodedPage, decodedBlock, decodedTable, decodedDevice};
-
-// What a region of memory is, whichever regime maps it.
-pub enum MemoryType {
-    // Normal, write-back, inner shareable.
-    NormalWbIsh,
-    // Normal, non-cacheable.
-    NormalNonCacheable,
-    DeviceNGnRnE,
-}
 
 // The access of a leaf, Ro or Rw, and whether it is execute never.
 pub struct AccessXn {
@@ -88,41 +78,6 @@ pub const BLOCK_RW_X: u64 = BLOCK | LEAF_COMMON | S2AP_RW;
 pub const BLOCK_RX: u64 = BLOCK | LEAF_COMMON | S2AP_RO;
 // Device memory's MemAttr and SH are zero.
 pub const BLOCK_DEVICE: u64 = BLOCK | AF | S2AP_RW | XN;
-
-impl MemoryType {
-    // The attribute byte of MAIR_ELx.
-    pub fn stage1_mair_byte(self) -> u8
-        ensures { λ r. ⌜ r ≡ mairByte self ⌝ }
-    {
-        match self {
-            MemoryType::NormalWbIsh => 0xff,
-            MemoryType::NormalNonCacheable => 0x44,
-            MemoryType::DeviceNGnRnE => 0x00,
-        }
-    }
-
-    // MemAttr and SH of a stage-2 leaf. The access flag is no part of a memory type.
-    pub fn stage2_leaf_bits(self) -> u64
-        ensures { λ r. ⌜ r ≡ leafBits self ⌝ }
-    {
-        match self {
-            MemoryType::NormalWbIsh => (0b1111 << 2) | (0b11 << 8),
-            MemoryType::NormalNonCacheable => 0b0101 << 2,
-            MemoryType::DeviceNGnRnE => 0b0000 << 2,
-        }
-    }
-
-    // SH, at the same bits in both stages.
-    pub fn shareability_bits(self) -> u64
-        ensures { λ r. ⌜ r ≡ shareabilityBits self ⌝ }
-    {
-        match self {
-            MemoryType::NormalWbIsh => 0b11 << 8,
-            MemoryType::NormalNonCacheable => 0b00 << 8,
-            MemoryType::DeviceNGnRnE => 0b00 << 8,
-        }
-    }
-}
 
 // What a leaf of this permission decodes to. The exemption alters only Rw.
 pub fn leaf_access_xn(perm: Perm, wx_exempt: bool) -> AccessXn

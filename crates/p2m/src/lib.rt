@@ -1,9 +1,8 @@
-// Frame kinds, owners and the records of page-table edges and grants (hv-core's p2m.rs), and the two words that leafmap.rs
-// adds to them: the span of a leaf and its permission.
+// Frame kinds, owners and the records of page-table edges and grants (hv-core's p2m.rs), and the span of a table's leaves
+// (hv-s2's leafmap.rs).
 ghost use mathlib.Core.Path.{_≡_};
 ghost use Rattle.p2m.specs.Frame.{kindOf, levelOfKind, typeCode, levelOfType, childType, spanCode, spanOfKind, ownerOf, kindAt};
 ghost use Rattle.p2m.specs.Records.{edgeOf, grantOf};
-ghost use Rattle.p2m.specs.Leaf.{permCode, permWrites, permExecutes};
 
 // The level of a page table. L1 is the bottom: its entries map ordinary pages.
 pub enum PtLevel {
@@ -47,13 +46,6 @@ pub enum TableSpan {
 pub enum Owner {
     Domain(u16),
     Nobody,
-}
-
-// The permission of a leaf. There is none that is writable and executable.
-pub enum Perm {
-    Ro,
-    Rw,
-    Rx,
 }
 
 // A page-table entry: slot `slot` of table `parent` references `child`.
@@ -108,6 +100,16 @@ impl PageType {
             PageType::PageTable(level) => TableLevel::Level(level),
         }
     }
+
+    // The kind of a frame of this type.
+    pub fn code(self) -> u32
+        ensures { λ r. ⌜ r ≡ typeCode self ⌝ }
+    {
+        match self {
+            PageType::Writable => 1,
+            PageType::PageTable(level) => level.kind(),
+        }
+    }
 }
 
 impl Span {
@@ -117,39 +119,6 @@ impl Span {
         match self {
             Span::Base => 1,
             Span::Super => 2,
-        }
-    }
-}
-
-impl Perm {
-    pub fn writable(self) -> bool
-        ensures { λ r. ⌜ r ≡ permWrites self ⌝ }
-    {
-        match self {
-            Perm::Rw => true,
-            Perm::Ro => false,
-            Perm::Rx => false,
-        }
-    }
-
-    pub fn executable(self) -> bool
-        ensures { λ r. ⌜ r ≡ permExecutes self ⌝ }
-    {
-        match self {
-            Perm::Rx => true,
-            Perm::Ro => false,
-            Perm::Rw => false,
-        }
-    }
-
-    // The entry of a leaf map that says this permission.
-    pub fn code(self) -> u8
-        ensures { λ r. ⌜ r ≡ permCode self ⌝ }
-    {
-        match self {
-            Perm::Ro => 1,
-            Perm::Rw => 2,
-            Perm::Rx => 3,
         }
     }
 }

@@ -3,13 +3,16 @@
 
 // The answer of function `op` at `x`; zeros where there is no such function.
 pub fn answer(op: u32, x: &[u64; 8]) -> [u64; 8] {
-    if op < 4 {
+    if op < 3 {
         return probe_frames::answer(op, x);
     }
     if op < 11 {
         return probe_words::answer(op, x);
     }
-    probe_regimes::answer(op, x)
+    if op < 16 {
+        return probe_regimes::answer(op, x);
+    }
+    probe_registers::answer(op, x)
 }
 
 #[no_mangle]

@@ -2,8 +2,6 @@
 use p2m::ChildType;
 use p2m::Owner;
 use p2m::PageType;
-use p2m::Perm;
-use p2m::PtLevel;
 use p2m::TableLevel;
 use p2m::TableSpan;
 
@@ -13,18 +11,11 @@ enum TypeNamed {
     Nothing,
 }
 
-// A permission by its code.
-enum PermNamed {
-    Perm(Perm),
-    Nothing,
-}
-
 pub fn answer(op: u32, x: &[u64; 8]) -> [u64; 8] {
     match op {
         0 => frame(x),
         1 => level(low(x[0])),
-        2 => page_type(low(x[0])),
-        _ => perm(x[0], x[1] != 0),
+        _ => page_type(low(x[0])),
     }
 }
 
@@ -79,24 +70,6 @@ fn page_type(code: u32) -> [u64; 8] {
     [level_number(t.level()), 0, 0, 0, 0, 0, 0, 0]
 }
 
-fn perm(code: u64, wx_exempt: bool) -> [u64; 8] {
-    let PermNamed::Perm(p) = perm_named(code) else {
-        return [0; 8];
-    };
-    let a = desc::leaf_access_xn(p, wx_exempt);
-    let access = a.access;
-    [
-        p.writable() as u64,
-        p.executable() as u64,
-        desc::page_leaf_attrs(p),
-        desc::block_leaf_attrs(p, wx_exempt),
-        access.code() as u64,
-        a.xn as u64,
-        0,
-        0,
-    ]
-}
-
 fn type_named(code: u32) -> TypeNamed {
     if code == 1 {
         return TypeNamed::Type(PageType::Writable);
@@ -105,15 +78,6 @@ fn type_named(code: u32) -> TypeNamed {
         return TypeNamed::Nothing;
     };
     TypeNamed::Type(PageType::PageTable(l))
-}
-
-fn perm_named(code: u64) -> PermNamed {
-    match code {
-        1 => PermNamed::Perm(Perm::Ro),
-        2 => PermNamed::Perm(Perm::Rw),
-        3 => PermNamed::Perm(Perm::Rx),
-        _ => PermNamed::Nothing,
-    }
 }
 
 // A domain's number, or the first that is nobody's.
@@ -140,7 +104,7 @@ fn level_number(l: TableLevel) -> u64 {
 
 fn child_number(c: ChildType) -> u64 {
     match c {
-        ChildType::Child(t) => level_number(t.level()),
+        ChildType::Child(t) => t.code() as u64,
         ChildType::Nothing => 0,
     }
 }

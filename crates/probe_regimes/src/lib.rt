@@ -1,15 +1,14 @@
-// regime by numbers: each parameter by the code of its field.
+// granule, regime and the encoding of VTCR_EL2 by numbers: each parameter by the code of its field.
+use granule::Granule;
+use granule::GranuleNamed;
+use granule::LevelNamed;
+use granule::StartLevel;
 use regime::Determined;
-use regime::Granule;
-use regime::GranuleNamed;
-use regime::LevelNamed;
 use regime::PaSize;
 use regime::SizeNamed;
 use regime::Stage2Regime;
-use regime::StartLevel;
 use regime::VmidBits;
-use registers::DecodedVtcr;
-use registers::Vtcr;
+use vtcr::Vtcr;
 
 // The width of a VMID by its code.
 enum WidthNamed {
@@ -28,11 +27,7 @@ pub fn answer(op: u32, x: &[u64; 8]) -> [u64; 8] {
         12 => start_level(x[0]),
         13 => pa_size(x[0]),
         14 => vmid_bits(x[0]),
-        15 => stage2_regime(x),
-        16 => decoded(registers::decode_vtcr_el2(x[0])),
-        17 => [registers::vttbr(x[0], x[1]), 0, 0, 0, 0, 0, 0, 0],
-        18 => vttbr_parts(x[0]),
-        _ => [0; 8],
+        _ => stage2_regime(x),
     }
 }
 
@@ -100,7 +95,7 @@ fn stage2_regime(x: &[u64; 8]) -> [u64; 8] {
     };
     let t0sz = r.t0sz();
     let align = r.table_align();
-    let vtcr = registers::vtcr_el2(r, b);
+    let value = vtcr::vtcr_el2(r, b);
     [
         1,
         r.valid() as u64,
@@ -108,8 +103,8 @@ fn stage2_regime(x: &[u64; 8]) -> [u64; 8] {
         determined(t0sz),
         is_determined(align),
         determined(align),
-        is_encoded(vtcr),
-        encoded(vtcr),
+        is_encoded(value),
+        encoded(value),
     ]
 }
 
@@ -160,48 +155,4 @@ fn encoded(v: Vtcr) -> u64 {
         Vtcr::Value(n) => n,
         Vtcr::Invalid => 0,
     }
-}
-
-fn decoded(d: DecodedVtcr) -> [u64; 8] {
-    match d {
-        DecodedVtcr::Regime(r, b) => regime_numbers(r, b),
-        DecodedVtcr::Nothing => [0; 8],
-    }
-}
-
-// One more than the width's code, so that it is not nothing, then the parameters in the order of the struct.
-fn regime_numbers(r: Stage2Regime, b: VmidBits) -> [u64; 8] {
-    let granule = r.granule;
-    let start_level = r.start_level;
-    let pa_size = r.pa_size;
-    [
-        width_number(b),
-        granule.tg0(),
-        r.ipa_bits as u64,
-        start_level.sl0(),
-        pa_size.ps(),
-        r.walk_shareability,
-        r.walk_inner,
-        r.walk_outer,
-    ]
-}
-
-fn width_number(b: VmidBits) -> u64 {
-    match b {
-        VmidBits::B8 => 1,
-        VmidBits::B16 => 2,
-    }
-}
-
-fn vttbr_parts(v: u64) -> [u64; 8] {
-    [
-        registers::vttbr_table(v),
-        registers::vttbr_vmid(v, VmidBits::B8) as u64,
-        registers::vttbr_vmid(v, VmidBits::B16) as u64,
-        0,
-        0,
-        0,
-        0,
-        0,
-    ]
 }

@@ -1,11 +1,19 @@
-// desc by numbers.
+// perm, memtype and desc by numbers.
 use desc::DecodedBlock;
 use desc::DecodedLeaf;
 use desc::DecodedTable;
-use desc::MemoryType;
+use memtype::MemoryType;
+use perm::Perm;
+
+// A permission by its code.
+enum PermNamed {
+    Perm(Perm),
+    Nothing,
+}
 
 pub fn answer(op: u32, x: &[u64; 8]) -> [u64; 8] {
     match op {
+        3 => permission(x[0], x[1] != 0),
         4 => memory_type(x[0]),
         5 => constants(),
         6 => words(),
@@ -13,6 +21,33 @@ pub fn answer(op: u32, x: &[u64; 8]) -> [u64; 8] {
         8 => leaf(desc::decode_block(x[0])),
         9 => table(desc::decode_table(x[0])),
         _ => device(desc::decode_device_block(x[0])),
+    }
+}
+
+fn permission(code: u64, wx_exempt: bool) -> [u64; 8] {
+    let PermNamed::Perm(p) = perm_named(code) else {
+        return [0; 8];
+    };
+    let a = desc::leaf_access_xn(p, wx_exempt);
+    let access = a.access;
+    [
+        p.writable() as u64,
+        p.executable() as u64,
+        desc::page_leaf_attrs(p),
+        desc::block_leaf_attrs(p, wx_exempt),
+        access.code() as u64,
+        a.xn as u64,
+        0,
+        0,
+    ]
+}
+
+fn perm_named(code: u64) -> PermNamed {
+    match code {
+        1 => PermNamed::Perm(Perm::Ro),
+        2 => PermNamed::Perm(Perm::Rw),
+        3 => PermNamed::Perm(Perm::Rx),
+        _ => PermNamed::Nothing,
     }
 }
 

@@ -1,33 +1,10 @@
 // The stage-2 translation regime (hv-s2's arm64.rs): the parameters that a walker reads the tables under, each with its code in
 // VTCR_EL2.
+use granule::Granule;
+use granule::StartLevel;
 ghost use mathlib.Core.Path.{_≡_};
-ghost use Rattle.regime.specs.Codes.{tg0, granuleNamed, sl0, levelNamed, ps, sizeNamed, vs, vmidBitsNamed};
-ghost use Rattle.regime.specs.Regime.{pageBits, levelBits, number, span, below, vmids, inputFits, validRegime, t0szOf, tableAlign};
-
-// The translation granule: the size of a page.
-pub enum Granule {
-    K4,
-    K16,
-    K64,
-}
-
-pub enum GranuleNamed {
-    Granule(Granule),
-    Reserved,
-}
-
-// The level that the walk starts at. Level 3 holds the pages.
-pub enum StartLevel {
-    L0,
-    L1,
-    L2,
-    L3,
-}
-
-pub enum LevelNamed {
-    Level(StartLevel),
-    Reserved,
-}
+ghost use Rattle.regime.specs.Codes.{ps, sizeNamed, vs, vmidBitsNamed, vmids};
+ghost use Rattle.regime.specs.Regime.{below, inputFits, validRegime, t0szOf, tableAlign};
 
 // The output address size in bits.
 pub enum PaSize {
@@ -81,90 +58,6 @@ pub const BALEEN_STAGE2: Stage2Regime = Stage2Regime {
 };
 
 pub const BALEEN_VMID_BITS: VmidBits = VmidBits::B8;
-
-impl Granule {
-    // Bits of the address that are the offset in a page.
-    pub fn page_bits(self) -> u32
-        ensures { λ r. ⌜ r ≡ pageBits self ⌝ }
-    {
-        match self {
-            Granule::K4 => 12,
-            Granule::K16 => 14,
-            Granule::K64 => 16,
-        }
-    }
-
-    // Bits of the address that one level resolves: a table is a page of 8-byte words.
-    pub fn level_bits(self) -> u32
-        ensures { λ r. ⌜ r ≡ levelBits self ⌝ }
-    {
-        self.page_bits() - 3
-    }
-
-    pub fn tg0(self) -> u64
-        ensures { λ r. ⌜ r ≡ tg0 self ⌝ }
-    {
-        match self {
-            Granule::K4 => 0b00,
-            Granule::K64 => 0b01,
-            Granule::K16 => 0b10,
-        }
-    }
-
-    pub fn from_tg0(v: u64) -> GranuleNamed
-        ensures { λ r. ⌜ r ≡ granuleNamed v ⌝ }
-    {
-        match v {
-            0b00 => GranuleNamed::Granule(Granule::K4),
-            0b01 => GranuleNamed::Granule(Granule::K64),
-            0b10 => GranuleNamed::Granule(Granule::K16),
-            _ => GranuleNamed::Reserved,
-        }
-    }
-}
-
-impl StartLevel {
-    pub fn number(self) -> u32
-        ensures { λ r. ⌜ r ≡ number self ⌝ }
-    {
-        match self {
-            StartLevel::L0 => 0,
-            StartLevel::L1 => 1,
-            StartLevel::L2 => 2,
-            StartLevel::L3 => 3,
-        }
-    }
-
-    pub fn sl0(self) -> u64
-        ensures { λ r. ⌜ r ≡ sl0 self ⌝ }
-    {
-        match self {
-            StartLevel::L2 => 0b00,
-            StartLevel::L1 => 0b01,
-            StartLevel::L0 => 0b10,
-            StartLevel::L3 => 0b11,
-        }
-    }
-
-    pub fn from_sl0(v: u64) -> LevelNamed
-        ensures { λ r. ⌜ r ≡ levelNamed v ⌝ }
-    {
-        match v {
-            0b00 => LevelNamed::Level(StartLevel::L2),
-            0b01 => LevelNamed::Level(StartLevel::L1),
-            0b10 => LevelNamed::Level(StartLevel::L0),
-            0b11 => LevelNamed::Level(StartLevel::L3),
-            _ => LevelNamed::Reserved,
-        }
-    }
-
-    // Bits of the address that a walk from this level resolves.
-    pub fn span(self, granule: Granule) -> u32
-        ensures { λ r. ⌜ r ≡ span self granule ⌝ }
-    {
-        granule.page_bits() + (4 - self.number()) * granule.level_bits()
-    }
-}
 
 impl PaSize {
     pub fn ps(self) -> u64

@@ -1,3 +1,0 @@
-pub mod RoundTrip
-pub mod Vtcr
-pub mod Vttbr

@@ -1,0 +1,63 @@
+-- What a valid regime's test says, as facts, and that its fields fit VTCR_EL2.
+use mathlib.Core.Path.{_≡_, refl}
+use mathlib.Core.Bool.{Bool, true, false, _&&_, false≢true}
+use Prim.Native.Nat.{_≤_, _<_}
+use native.Mathlib.Omega.{arith}
+use borrow.Author.Tests.{leb-true, ltb-true}
+use Rattle.regime.specs.declared.Stage2Regime.{Stage2Regime}
+use Rattle.regime.specs.declared.VmidBits.{VmidBits}
+use Rattle.granule.specs.Granule.{pageBits}
+use Rattle.regime.specs.Regime.{inputFits, validRegime}
+use Rattle.vtcr.specs.Vtcr.{InRange, fieldsFor}
+use Rattle.granule.proofs.Bounds.{page-range, sl0-range, tg0-range}
+use Rattle.regime.proofs.Bounds.{ps-range, vs-range}
+
+pub record Valid (r : Stage2Regime) : Type 0 where
+  pub wide : r .«ipa_bits» ≤ 48
+  pub page : pageBits (r .granule) < r .«ipa_bits»
+  pub shareability : r .«walk_shareability» ≤ 3
+  pub inner : r .«walk_inner» ≤ 3
+  pub outer : r .«walk_outer» ≤ 3
+
+both : (a b : Bool) → (a && b) ≡ true → (a ≡ true) × (b ≡ true)
+both true b e = (refl, e)
+both false b e = absurd (false≢true e)
+
+input-facts : (r : Stage2Regime) → inputFits r ≡ true → (r .«ipa_bits» ≤ 48) × (pageBits (r .granule) < r .«ipa_bits»)
+unfolding inputFits
+input-facts r e =
+    let l = both _ _ (both _ _ e .0) in
+    let p = both _ _ (l .0) in
+    (leb-true _ _ (p .0), ltb-true _ _ (p .1))
+
+pub facts : (r : Stage2Regime) → validRegime r ≡ true → Valid r
+unfolding validRegime
+facts r e =
+    let o = both _ _ e in
+    let i = both _ _ (o .0) in
+    let h = both _ _ (i .0) in
+    let p = input-facts r (h .0) in
+    record {
+      wide = p .0;
+      page = p .1;
+      shareability = leb-true _ _ (h .1);
+      inner = leb-true _ _ (i .1);
+      outer = leb-true _ _ (o .1);
+    }
+
+-- the fields of a valid regime fit their places
+pub in-range : (r : Stage2Regime) (b : VmidBits) → Valid r → InRange (fieldsFor r b)
+in-range r b v =
+    let g = page-range (r .granule) in
+    record {
+      t0sz = omega arith;
+      sl0 = sl0-range (r .«start_level»);
+      irgn0 = omega arith;
+      orgn0 = omega arith;
+      sh0 = omega arith;
+      tg0 = tg0-range (r .granule);
+      ps = ps-range (r .«pa_size»);
+      vs = vs-range b;
+      res1 = omega arith;
+      ds = omega arith;
+    }
