@@ -1,22 +1,22 @@
 -- Document 01's words have their fields, by computing them; and decode to what was joined, since an aligned address leaves the
 -- fields below it and bit 54 alone.
 use Prim.Native.Nat.{ℕ, _+_, _*_, _/_, _^_, _<_}
-use mathlib.Core.Path.{_≡_, refl, subst, _∙_, ap}
 use mathlib.Core.Bool.{Bool, true, false}
+use mathlib.Core.Path.{_≡_, refl, subst, ap}
 use native.Mathlib.Omega.{arith}
 use lib.Dec.{eqb}
 use borrow.Author.Tests.{eq-eqb}
-use Rattle.perm.specs.declared.Perm.{Perm}
-use Rattle.perm.specs.declared.Perm.the-variants.{Ro, Rw, Rx}
-use Rattle.desc.specs.declared.AccessXn.{AccessXn}
-use Rattle.desc.specs.declared.Access.the-variants.{Perm as Grants}
-use Rattle.desc.specs.declared.DecodedTable.the-variants.{At}
-use Rattle.desc.specs.declared.DecodedBlock.the-variants.{Device}
 use Rattle.memtype.specs.declared.MemoryType.the-variants.{NormalWbIsh}
+use Rattle.perm.specs.declared.Perm.the-variants.{Ro, Rw, Rx}
+use Rattle.perm.specs.declared.Perm.{Perm}
 use Rattle.desc.specs.Decoded.{decodedPage, decodedBlock, decodedTable, decodedDevice, leafAt, accessNamed, s2apOf}
 use Rattle.desc.specs.Descriptor.{descriptorType, blockType, tableType, pageType, memAttr, s2ap, executeNever, xn, pageAddress, blockAddress}
-use Rattle.desc.specs.Emitted.{bit, Exactly, leafFields, WordFields, EmittedDecodes, Output, leafWith, readExecute, readWrite}
-use Rattle.desc.specs.Words.{tableWord, pageWord, blockWord, imageWord, deviceWord, leafAccessXn}
+use Rattle.desc.specs.Emitted.{bit, Exactly, leafFields, WordFields, EmittedDecodes, Output, leafWith, readWrite}
+use Rattle.desc.specs.Words.{tableWord, pageWord, blockWord, deviceWord, leafAccessXn}
+use Rattle.desc.specs.declared.Access.the-variants.{Perm as Grants}
+use Rattle.desc.specs.declared.AccessXn.{AccessXn}
+use Rattle.desc.specs.declared.DecodedBlock.the-variants.{Device}
+use Rattle.desc.specs.declared.DecodedTable.the-variants.{At}
 
 page-fields : (p : Perm) → Exactly (pageWord p) (leafFields pageType NormalWbIsh (leafAccessXn p false))
 page-fields Ro = (refl, refl)

@@ -1,10 +1,10 @@
 -- The test of the type field, as the code makes it.
-use mathlib.Core.Path.{_≡_, _∙_, sym}
-use mathlib.Core.Bool.{true, false}
 use Prim.Native.Nat.{ℕ, _%_}
+use mathlib.Core.Bool.{true, false}
+use mathlib.Core.Path.{_≡_, _∙_, sym}
 use native.Mathlib.Omega.{arith}
-use borrow.Author.Tests.{eq-eqb, ne-eqb}
 use lib.Dec.{eqb}
+use borrow.Author.Tests.{eq-eqb, ne-eqb}
 use Rattle.desc.specs.Descriptor.{descriptorType}
 
 low-bits : (d : ℕ) → descriptorType d ≡ d % 4

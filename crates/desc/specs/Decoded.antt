@@ -1,20 +1,20 @@
 -- What a word means to the Rust's decoders, in the fields of DDI 0487.
 use Prim.Native.Nat.{ℕ}
 use mathlib.Core.Bool.{Bool}
-use mathlib.Core.List.{List, [], _∷_}
+use mathlib.Core.List.{[], _∷_}
 use lib.Dec.{eqb}
 use Rattle.fields.specs.Named.{pick, named}
-use Rattle.perm.specs.declared.Perm.{Perm}
 use Rattle.perm.specs.declared.Perm.the-variants.{Ro, Rw, Rx}
-use Rattle.desc.specs.declared.Access.{Access}
-use Rattle.desc.specs.declared.Access.the-variants.{Perm as Grants, Nothing as NoAccess}
-use Rattle.desc.specs.declared.DecodedLeaf.{DecodedLeaf}
-use Rattle.desc.specs.declared.DecodedLeaf.the-variants.{Leaf, Nothing as NoLeaf}
-use Rattle.desc.specs.declared.DecodedTable.{DecodedTable}
-use Rattle.desc.specs.declared.DecodedTable.the-variants.{At, Nothing as NoTable}
-use Rattle.desc.specs.declared.DecodedBlock.{DecodedBlock}
-use Rattle.desc.specs.declared.DecodedBlock.the-variants.{Device, Nothing as NoBlock}
+use Rattle.perm.specs.declared.Perm.{Perm}
 use Rattle.desc.specs.Descriptor.{descriptorType, blockType, tableType, pageType, memAttr, s2ap, executeNever, pageAddress, blockAddress}
+use Rattle.desc.specs.declared.Access.the-variants.{Perm as Grants, Nothing as NoAccess}
+use Rattle.desc.specs.declared.Access.{Access}
+use Rattle.desc.specs.declared.DecodedBlock.the-variants.{Device, Nothing as NoBlock}
+use Rattle.desc.specs.declared.DecodedBlock.{DecodedBlock}
+use Rattle.desc.specs.declared.DecodedLeaf.the-variants.{Leaf, Nothing as NoLeaf}
+use Rattle.desc.specs.declared.DecodedLeaf.{DecodedLeaf}
+use Rattle.desc.specs.declared.DecodedTable.the-variants.{At, Nothing as NoTable}
+use Rattle.desc.specs.declared.DecodedTable.{DecodedTable}
 
 -- S2AP of an access: 11 reads and writes, 01 reads
 abbrev pub s2apOf : Perm → ℕ

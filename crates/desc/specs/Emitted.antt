@@ -1,20 +1,20 @@
 -- What is proved of document 01's words: the fields that they have, and what decoding gives back.
 use Prim.Native.Nat.{ℕ, _+_, _%_, _^_, _<_}
-use mathlib.Core.Path.{_≡_}
 use mathlib.Core.Bool.{Bool, true, false}
-use Rattle.perm.specs.declared.Perm.{Perm}
-use Rattle.perm.specs.declared.Perm.the-variants.{Ro, Rw}
-use Rattle.desc.specs.declared.AccessXn.{AccessXn}
-use Rattle.desc.specs.declared.DecodedLeaf.{DecodedLeaf}
-use Rattle.desc.specs.declared.DecodedLeaf.the-variants.{Leaf}
-use Rattle.desc.specs.declared.DecodedTable.the-variants.{At}
-use Rattle.desc.specs.declared.DecodedBlock.the-variants.{Device}
-use Rattle.memtype.specs.declared.MemoryType.{MemoryType}
+use mathlib.Core.Path.{_≡_}
+use Rattle.memtype.specs.Memory.{memAttrOf, shOf}
 use Rattle.memtype.specs.declared.MemoryType.the-variants.{NormalWbIsh, DeviceNGnRnE}
+use Rattle.memtype.specs.declared.MemoryType.{MemoryType}
+use Rattle.perm.specs.declared.Perm.the-variants.{Ro, Rw}
+use Rattle.perm.specs.declared.Perm.{Perm}
 use Rattle.desc.specs.Decoded.{s2apOf, decodedPage, decodedBlock, decodedTable, decodedDevice}
 use Rattle.desc.specs.Descriptor.{Fields, fieldsOf, joined, blockType, tableType, pageType}
-use Rattle.memtype.specs.Memory.{memAttrOf, shOf}
 use Rattle.desc.specs.Words.{tableWord, pageWord, blockWord, imageWord, deviceWord, leafAccessXn}
+use Rattle.desc.specs.declared.AccessXn.{AccessXn}
+use Rattle.desc.specs.declared.DecodedBlock.the-variants.{Device}
+use Rattle.desc.specs.declared.DecodedLeaf.the-variants.{Leaf}
+use Rattle.desc.specs.declared.DecodedLeaf.{DecodedLeaf}
+use Rattle.desc.specs.declared.DecodedTable.the-variants.{At}
 
 -- read-only and executable, as the image is
 abbrev pub readExecute : AccessXn

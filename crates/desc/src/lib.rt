@@ -50,16 +50,20 @@ pub const TABLE: u64 = 0b11;
 pub const PAGE: u64 = 0b11;
 
 pub const BLOCK: u64 = 0b01;
+
 // The access flag: without it the first access faults.
 pub const AF: u64 = 1 << 10;
 
 pub const S2AP_RW: u64 = 0b11 << 6;
 
 pub const S2AP_RO: u64 = 0b01 << 6;
+
 // Execute never.
 pub const XN: u64 = 1 << 54;
+
 // Normal memory's MemAttr and SH, with the access flag.
 pub const LEAF_COMMON: u64 = (0b1111 << 2) | (0b11 << 8) | AF;
+
 // The guest image: read-only and executable.
 pub const BLOCK_ROX: u64 = BLOCK | LEAF_COMMON | S2AP_RO;
 
@@ -72,10 +76,12 @@ pub const PAGE_RX: u64 = PAGE | LEAF_COMMON | S2AP_RO;
 pub const BLOCK_RW: u64 = BLOCK | LEAF_COMMON | S2AP_RW | XN;
 
 pub const BLOCK_RO: u64 = BLOCK | LEAF_COMMON | S2AP_RO | XN;
+
 // Writable and executable: only in a layout that declares the exemption.
 pub const BLOCK_RW_X: u64 = BLOCK | LEAF_COMMON | S2AP_RW;
 
 pub const BLOCK_RX: u64 = BLOCK | LEAF_COMMON | S2AP_RO;
+
 // Device memory's MemAttr and SH are zero.
 pub const BLOCK_DEVICE: u64 = BLOCK | AF | S2AP_RW | XN;
 

@@ -2,12 +2,12 @@
 use Prim.Native.Nat.{ℕ, _+_, _-_, _*_}
 use mathlib.Core.List.{[], _∷_}
 use Rattle.fields.specs.Named.{named}
-use Rattle.granule.specs.declared.Granule.{Granule}
-use Rattle.granule.specs.declared.StartLevel.{StartLevel}
-use Rattle.granule.specs.declared.StartLevel.the-variants.{L0, L1, L2, L3}
-use Rattle.granule.specs.declared.LevelNamed.{LevelNamed}
-use Rattle.granule.specs.declared.LevelNamed.the-variants.{Level, Reserved as NoLevel}
 use Rattle.granule.specs.Granule.{pageBits, levelBits}
+use Rattle.granule.specs.declared.Granule.{Granule}
+use Rattle.granule.specs.declared.LevelNamed.the-variants.{Level, Reserved as NoLevel}
+use Rattle.granule.specs.declared.LevelNamed.{LevelNamed}
+use Rattle.granule.specs.declared.StartLevel.the-variants.{L0, L1, L2, L3}
+use Rattle.granule.specs.declared.StartLevel.{StartLevel}
 
 abbrev pub number : StartLevel → ℕ
 number L0 = 0

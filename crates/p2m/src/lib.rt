@@ -2,7 +2,6 @@
 // (hv-s2's leafmap.rs).
 ghost use mathlib.Core.Path.{_≡_};
 ghost use Rattle.p2m.specs.Frame.{kindOf, levelOfKind, typeCode, levelOfType, childType, spanCode, spanOfKind, ownerOf, kindAt};
-ghost use Rattle.p2m.specs.Records.{edgeOf, grantOf};
 
 // The level of a page table. L1 is the bottom: its entries map ordinary pages.
 pub enum PtLevel {
@@ -119,35 +118,6 @@ impl Span {
         match self {
             Span::Base => 1,
             Span::Super => 2,
-        }
-    }
-}
-
-impl Edge {
-    // A row of six numbers: zero is no, all else yes.
-    pub fn from_row(row: [u32; 6]) -> Edge
-        ensures { λ r. ⌜ r ≡ edgeOf row ⌝ }
-    {
-        Edge {
-            parent: row[0],
-            slot: row[1],
-            child: row[2],
-            writable: row[3] != 0,
-            leaf: row[4] != 0,
-            execute: row[5] != 0,
-        }
-    }
-}
-
-impl Grant {
-    pub fn from_row(row: [u32; 4]) -> Grant
-        ensures { λ r. ⌜ r ≡ grantOf row ⌝ }
-    {
-        Grant {
-            grantor: row[0],
-            grantee: row[1],
-            frame: row[2],
-            writable: row[3] != 0,
         }
     }
 }

@@ -1,8 +1,8 @@
 -- Leaf permissions, by document 01 ("Leaf maps"): entries 1 Ro, 2 Rw, 3 Rx; 0 is unmapped.
 use Prim.Native.Nat.{ℕ}
 use mathlib.Core.Bool.{Bool, true, false}
-use Rattle.perm.specs.declared.Perm.{Perm}
 use Rattle.perm.specs.declared.Perm.the-variants.{Ro, Rw, Rx}
+use Rattle.perm.specs.declared.Perm.{Perm}
 
 abbrev pub permCode : Perm → ℕ
 permCode Ro = 1

@@ -25,12 +25,12 @@ fn low(n: u64) -> u32 {
 
 // Up to three rows of owner and kind, how many there are, and the frame.
 fn frame(x: &[u64; 8]) -> [u64; 8] {
-    let rows = [
-        [low(x[0]), low(x[1])],
-        [low(x[2]), low(x[3])],
-        [low(x[4]), low(x[5])],
-    ];
+    let rows = [row(x[0], x[1]), row(x[2], x[3]), row(x[4], x[5])];
     front(&rows, x[6] as usize, low(x[7]))
+}
+
+fn row(owner: u64, kind: u64) -> [u32; 2] {
+    [low(owner), low(kind)]
 }
 
 fn front(frames: &[[u32; 2]], count: usize, mfn: u32) -> [u64; 8] {

@@ -93,19 +93,32 @@ fn stage2_regime(x: &[u64; 8]) -> [u64; 8] {
     let WidthNamed::Width(b) = width_named(x[7]) else {
         return [0; 8];
     };
+    with_vtcr(sizes(r), vtcr::vtcr_el2(r, b))
+}
+
+fn sizes(r: Stage2Regime) -> [u64; 8] {
+    let mut out = [0; 8];
+    out[0] = 1;
+    out[1] = r.valid() as u64;
     let t0sz = r.t0sz();
-    let align = r.table_align();
-    let value = vtcr::vtcr_el2(r, b);
-    [
-        1,
-        r.valid() as u64,
-        is_determined(t0sz),
-        determined(t0sz),
-        is_determined(align),
-        determined(align),
-        is_encoded(value),
-        encoded(value),
-    ]
+    if let Determined::Value(n) = t0sz {
+        out[2] = 1;
+        out[3] = n;
+    }
+    let table_align = r.table_align();
+    if let Determined::Value(n) = table_align {
+        out[4] = 1;
+        out[5] = n;
+    }
+    out
+}
+
+fn with_vtcr(mut out: [u64; 8], vtcr: Vtcr) -> [u64; 8] {
+    if let Vtcr::Value(n) = vtcr {
+        out[6] = 1;
+        out[7] = n;
+    }
+    out
 }
 
 fn regime_named(x: &[u64; 8]) -> RegimeNamed {
@@ -127,32 +140,4 @@ fn regime_named(x: &[u64; 8]) -> RegimeNamed {
         walk_inner: x[5],
         walk_outer: x[6],
     })
-}
-
-fn is_determined(d: Determined) -> u64 {
-    match d {
-        Determined::Value(_) => 1,
-        Determined::Undefined => 0,
-    }
-}
-
-fn determined(d: Determined) -> u64 {
-    match d {
-        Determined::Value(n) => n,
-        Determined::Undefined => 0,
-    }
-}
-
-fn is_encoded(v: Vtcr) -> u64 {
-    match v {
-        Vtcr::Value(_) => 1,
-        Vtcr::Invalid => 0,
-    }
-}
-
-fn encoded(v: Vtcr) -> u64 {
-    match v {
-        Vtcr::Value(n) => n,
-        Vtcr::Invalid => 0,
-    }
 }

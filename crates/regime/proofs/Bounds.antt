@@ -4,11 +4,11 @@ use mathlib.Core.Path.{_≡_}
 use native.Mathlib.Omega.{arith}
 use lib.Dec.{lit<}
 use lib.Pow.{shl-exact}
-use Rattle.regime.specs.declared.PaSize.{PaSize}
-use Rattle.regime.specs.declared.PaSize.the-variants.{B32, B36, B40, B42, B44, B48, B52}
-use Rattle.regime.specs.declared.VmidBits.{VmidBits}
-use Rattle.regime.specs.declared.VmidBits.the-variants.{B8, B16}
 use Rattle.regime.specs.Codes.{ps, vs, vmids}
+use Rattle.regime.specs.declared.PaSize.the-variants.{B32, B36, B40, B42, B44, B48, B52}
+use Rattle.regime.specs.declared.PaSize.{PaSize}
+use Rattle.regime.specs.declared.VmidBits.the-variants.{B8, B16}
+use Rattle.regime.specs.declared.VmidBits.{VmidBits}
 
 pub ps-range : (s : PaSize) → ps s < 8
 ps-range B32 = omega arith

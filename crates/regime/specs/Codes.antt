@@ -3,12 +3,12 @@ use Prim.Native.Nat.{ℕ, _^_}
 use mathlib.Core.List.{[], _∷_}
 use lib.Dec.{eqb}
 use Rattle.fields.specs.Named.{pick, named}
-use Rattle.regime.specs.declared.PaSize.{PaSize}
 use Rattle.regime.specs.declared.PaSize.the-variants.{B32, B36, B40, B42, B44, B48, B52}
-use Rattle.regime.specs.declared.SizeNamed.{SizeNamed}
+use Rattle.regime.specs.declared.PaSize.{PaSize}
 use Rattle.regime.specs.declared.SizeNamed.the-variants.{Size, Reserved as NoSize}
-use Rattle.regime.specs.declared.VmidBits.{VmidBits}
+use Rattle.regime.specs.declared.SizeNamed.{SizeNamed}
 use Rattle.regime.specs.declared.VmidBits.the-variants.{B8, B16}
+use Rattle.regime.specs.declared.VmidBits.{VmidBits}
 
 -- PS, bits 18:16
 abbrev pub ps : PaSize → ℕ

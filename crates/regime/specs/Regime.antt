@@ -3,14 +3,14 @@ use Prim.Native.Nat.{ℕ, _-_, _*_, _^_, max}
 use mathlib.Core.Bool.{Bool, _&&_}
 use lib.Dec.{leb, ltb}
 use Rattle.fields.specs.Named.{pick}
-use Rattle.granule.specs.declared.Granule.the-variants.{K4}
-use Rattle.granule.specs.declared.StartLevel.the-variants.{L1}
 use Rattle.granule.specs.Granule.{pageBits, levelBits}
 use Rattle.granule.specs.StartLevel.{span}
+use Rattle.granule.specs.declared.Granule.the-variants.{K4}
+use Rattle.granule.specs.declared.StartLevel.the-variants.{L1}
+use Rattle.regime.specs.declared.Determined.the-variants.{Value, Undefined}
+use Rattle.regime.specs.declared.Determined.{Determined}
 use Rattle.regime.specs.declared.PaSize.the-variants.{B40}
 use Rattle.regime.specs.declared.Stage2Regime.{Stage2Regime}
-use Rattle.regime.specs.declared.Determined.{Determined}
-use Rattle.regime.specs.declared.Determined.the-variants.{Value, Undefined}
 
 -- what the walk resolves below its start level
 unfoldable pub below : Stage2Regime → ℕ

@@ -21,52 +21,26 @@ fn replay_line() -> bool {
         return false;
     }
     let op = digit(line[0]) * 16 + digit(line[1]);
-    let x = [
-        word(&line, 3),
-        word(&line, 20),
-        word(&line, 37),
-        word(&line, 54),
-        word(&line, 71),
-        word(&line, 88),
-        word(&line, 105),
-        word(&line, 122),
-    ];
-    print_line(probe::answer(op as u32, &x))
+    print_line(probe::answer(op as u32, &numbers(&line)))
 }
 
-fn print_line(out: [u64; 8]) -> bool {
-    print_word(out[0], b" ")
-        && print_word(out[1], b" ")
-        && print_word(out[2], b" ")
-        && print_word(out[3], b" ")
-        && print_word(out[4], b" ")
-        && print_word(out[5], b" ")
-        && print_word(out[6], b" ")
-        && print_word(out[7], b"\n")
+fn numbers(line: &[u8; 139]) -> [u64; 8] {
+    let mut x = [0; 8];
+    for i in 0..8 {
+        x[i] = number_at(line, 3 + 17 * i);
+    }
+    x
 }
 
-fn print_word(n: u64, end: &[u8; 1]) -> bool {
-    io::print_hex(STDOUT_FILENO, n, 16) && io::write_all(STDOUT_FILENO, end)
-}
-
-fn word(line: &[u8; 139], at: usize) -> u64
+// 16 digits.
+fn number_at(line: &[u8; 139], at: usize) -> u64
     requires { ⌜ at + 16 ≤ 139 ⌝ }
 {
-    quarter(line, at) * 0x1_0000_0000_0000
-        + quarter(line, at + 4) * 0x1_0000_0000
-        + quarter(line, at + 8) * 0x1_0000
-        + quarter(line, at + 12)
-}
-
-// Four digits.
-fn quarter(line: &[u8; 139], at: usize) -> u64
-    requires { ⌜ at + 4 ≤ 139 ⌝ }
-    ensures { λ r. ⌜ r < 65536 ⌝ }
-{
-    digit(line[at]) * 4096
-        + digit(line[at + 1]) * 256
-        + digit(line[at + 2]) * 16
-        + digit(line[at + 3])
+    let mut n = 0;
+    for i in 0..16 {
+        n = n % 0x1000_0000_0000_0000 * 16 + digit(line[at + i]);
+    }
+    n
 }
 
 fn digit(c: u8) -> u64
@@ -85,4 +59,17 @@ fn digit(c: u8) -> u64
         return (c - b'a' + 10) as u64;
     }
     0
+}
+
+fn print_line(out: [u64; 8]) -> bool {
+    for i in 0..7 {
+        if !print_number(out[i], b" ") {
+            return false;
+        }
+    }
+    print_number(out[7], b"\n")
+}
+
+fn print_number(n: u64, end: &[u8; 1]) -> bool {
+    io::print_hex(STDOUT_FILENO, n, 16) && io::write_all(STDOUT_FILENO, end)
 }

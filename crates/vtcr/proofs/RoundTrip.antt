@@ -1,31 +1,30 @@
 -- Decoding gives back what was encoded: no field runs into the next, so each is read as it was written.
 use Prim.Native.Nat.{_-_}
-use mathlib.Core.Path.{_≡_, refl, _∙_, sym, ap}
 use mathlib.Core.Bool.{true}
+use mathlib.Core.Path.{_≡_, refl, _∙_, ap}
 use native.Mathlib.Omega.{arith}
-use Rattle.fields.specs.Bits.{bits}
-use Rattle.granule.specs.declared.Granule.{Granule}
-use Rattle.granule.specs.declared.Granule.the-variants.{K4, K16, K64}
-use Rattle.granule.specs.declared.GranuleNamed.the-variants.{Granule as IsGranule}
-use Rattle.granule.specs.declared.StartLevel.{StartLevel}
-use Rattle.granule.specs.declared.StartLevel.the-variants.{L0, L1, L2, L3}
-use Rattle.granule.specs.declared.LevelNamed.the-variants.{Level}
-use Rattle.regime.specs.declared.PaSize.{PaSize}
-use Rattle.regime.specs.declared.PaSize.the-variants.{B32, B36, B40, B42, B44, B48, B52}
-use Rattle.regime.specs.declared.SizeNamed.the-variants.{Size}
-use Rattle.regime.specs.declared.VmidBits.{VmidBits}
-use Rattle.regime.specs.declared.VmidBits.the-variants.{B8, B16}
-use Rattle.regime.specs.declared.Stage2Regime.{Stage2Regime}
-use Rattle.vtcr.specs.declared.VtcrFields.{VtcrFields}
-use Rattle.vtcr.specs.declared.DecodedVtcr.the-variants.{Regime}
-use Rattle.granule.specs.StartLevel.{span}
-use Rattle.regime.specs.Codes.{vmids}
-use Rattle.regime.specs.Regime.{below, inputFits, validRegime}
-use Rattle.vtcr.specs.RoundTrip.{VtcrRoundTrip, BaleenValue}
 use Rattle.granule.specs.Granule.{tg0, granuleNamed}
 use Rattle.granule.specs.StartLevel.{sl0, levelNamed}
+use Rattle.granule.specs.StartLevel.{span}
+use Rattle.granule.specs.declared.Granule.the-variants.{K4, K16, K64}
+use Rattle.granule.specs.declared.Granule.{Granule}
+use Rattle.granule.specs.declared.GranuleNamed.the-variants.{Granule as IsGranule}
+use Rattle.granule.specs.declared.LevelNamed.the-variants.{Level}
+use Rattle.granule.specs.declared.StartLevel.the-variants.{L0, L1, L2, L3}
+use Rattle.granule.specs.declared.StartLevel.{StartLevel}
 use Rattle.regime.specs.Codes.{ps, sizeNamed, vs, vmidBitsNamed}
-use Rattle.vtcr.specs.Vtcr.{fieldsOf, InRange, joined, fieldsFor, regimeWith, regimeNamed, decodedFields, decodedVtcr}
+use Rattle.regime.specs.Regime.{below, inputFits, validRegime}
+use Rattle.regime.specs.declared.PaSize.the-variants.{B32, B36, B40, B42, B44, B48, B52}
+use Rattle.regime.specs.declared.PaSize.{PaSize}
+use Rattle.regime.specs.declared.SizeNamed.the-variants.{Size}
+use Rattle.regime.specs.declared.Stage2Regime.{Stage2Regime}
+use Rattle.regime.specs.declared.VmidBits.the-variants.{B8, B16}
+use Rattle.regime.specs.declared.VmidBits.{VmidBits}
+use Rattle.vtcr_fields.proofs.FieldsBack.{fields-back}
+use Rattle.vtcr_fields.specs.Fields.{joined}
+use Rattle.vtcr.specs.RoundTrip.{VtcrRoundTrip, BaleenValue}
+use Rattle.vtcr.specs.Vtcr.{fieldsFor, regimeWith, regimeNamed, decodedFields}
+use Rattle.vtcr.specs.declared.DecodedVtcr.the-variants.{Regime}
 use Rattle.vtcr.proofs.Valid.{facts, in-range}
 
 -- the code of a parameter names it
@@ -53,42 +52,6 @@ size-named B52 = refl
 vmid-bits-named : (b : VmidBits) → vmidBitsNamed (vs b) ≡ b
 vmid-bits-named B8 = refl
 vmid-bits-named B16 = refl
-
--- the fields of the value that joins them
-
-module _ (f : VtcrFields) (h : InRange f) where
-  t0sz-back : bits 5 0 (joined f) ≡ f .t0sz
-  t0sz-back = omega arith
-
-  sl0-back : bits 7 6 (joined f) ≡ f .sl0
-  sl0-back = omega arith
-
-  irgn0-back : bits 9 8 (joined f) ≡ f .irgn0
-  irgn0-back = omega arith
-
-  orgn0-back : bits 11 10 (joined f) ≡ f .orgn0
-  orgn0-back = omega arith
-
-  sh0-back : bits 13 12 (joined f) ≡ f .sh0
-  sh0-back = omega arith
-
-  tg0-back : bits 15 14 (joined f) ≡ f .tg0
-  tg0-back = omega arith
-
-  ps-back : bits 18 16 (joined f) ≡ f .ps
-  ps-back = omega arith
-
-  vs-back : bits 19 19 (joined f) ≡ f .vs
-  vs-back = omega arith
-
-  res1-back : bits 31 31 (joined f) ≡ f .res1
-  res1-back = omega arith
-
-  ds-back : bits 32 32 (joined f) ≡ f .ds
-  ds-back = omega arith
-
-  fields-back : fieldsOf (joined f) ≡ f
-  fields-back = simp (t0sz-back, sl0-back, irgn0-back, orgn0-back, sh0-back, tg0-back, ps-back, vs-back, res1-back, ds-back)
 
 -- a valid regime, read back from its own fields
 named-back : (r : Stage2Regime) (b : VmidBits) → validRegime r ≡ true → regimeNamed (fieldsFor r b) ≡ Regime r b

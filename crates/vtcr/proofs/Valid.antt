@@ -1,16 +1,17 @@
 -- What a valid regime's test says, as facts, and that its fields fit VTCR_EL2.
-use mathlib.Core.Path.{_≡_, refl}
-use mathlib.Core.Bool.{Bool, true, false, _&&_, false≢true}
 use Prim.Native.Nat.{_≤_, _<_}
+use mathlib.Core.Bool.{Bool, true, false, _&&_, false≢true}
+use mathlib.Core.Path.{_≡_, refl}
 use native.Mathlib.Omega.{arith}
 use borrow.Author.Tests.{leb-true, ltb-true}
+use Rattle.granule.proofs.Bounds.{page-range, sl0-range, tg0-range}
+use Rattle.granule.specs.Granule.{pageBits}
+use Rattle.regime.proofs.Bounds.{ps-range, vs-range}
+use Rattle.regime.specs.Regime.{inputFits, validRegime}
 use Rattle.regime.specs.declared.Stage2Regime.{Stage2Regime}
 use Rattle.regime.specs.declared.VmidBits.{VmidBits}
-use Rattle.granule.specs.Granule.{pageBits}
-use Rattle.regime.specs.Regime.{inputFits, validRegime}
-use Rattle.vtcr.specs.Vtcr.{InRange, fieldsFor}
-use Rattle.granule.proofs.Bounds.{page-range, sl0-range, tg0-range}
-use Rattle.regime.proofs.Bounds.{ps-range, vs-range}
+use Rattle.vtcr_fields.specs.Fields.{InRange}
+use Rattle.vtcr.specs.Vtcr.{fieldsFor}
 
 pub record Valid (r : Stage2Regime) : Type 0 where
   pub wide : r .«ipa_bits» ≤ 48

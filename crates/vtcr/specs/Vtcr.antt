@@ -1,72 +1,29 @@
--- VTCR_EL2, by its fields in DDI 0487.
-use Prim.Native.Nat.{ℕ, _+_, _-_, _*_, _^_, _<_}
+-- The VTCR_EL2 value of a regime, and the regime that a value names.
+use Prim.Native.Nat.{ℕ, _-_}
 use mathlib.Core.Bool.{Bool, true, false}
 use lib.Dec.{eqb}
-use Rattle.fields.specs.Bits.{bits}
 use Rattle.fields.specs.Named.{pick}
-use Rattle.granule.specs.declared.Granule.{Granule}
-use Rattle.granule.specs.declared.GranuleNamed.{GranuleNamed}
-use Rattle.granule.specs.declared.GranuleNamed.the-variants.{Granule as IsGranule, Reserved as NoGranule}
-use Rattle.granule.specs.declared.StartLevel.{StartLevel}
-use Rattle.granule.specs.declared.LevelNamed.{LevelNamed}
-use Rattle.granule.specs.declared.LevelNamed.the-variants.{Level, Reserved as NoLevel}
-use Rattle.regime.specs.declared.PaSize.{PaSize}
-use Rattle.regime.specs.declared.SizeNamed.{SizeNamed}
-use Rattle.regime.specs.declared.SizeNamed.the-variants.{Size, Reserved as NoSize}
-use Rattle.regime.specs.declared.VmidBits.{VmidBits}
-use Rattle.regime.specs.declared.Stage2Regime.{Stage2Regime}
 use Rattle.granule.specs.Granule.{tg0, granuleNamed}
 use Rattle.granule.specs.StartLevel.{sl0, levelNamed}
+use Rattle.granule.specs.declared.Granule.{Granule}
+use Rattle.granule.specs.declared.GranuleNamed.the-variants.{Granule as IsGranule, Reserved as NoGranule}
+use Rattle.granule.specs.declared.GranuleNamed.{GranuleNamed}
+use Rattle.granule.specs.declared.LevelNamed.the-variants.{Level, Reserved as NoLevel}
+use Rattle.granule.specs.declared.LevelNamed.{LevelNamed}
+use Rattle.granule.specs.declared.StartLevel.{StartLevel}
 use Rattle.regime.specs.Codes.{ps, sizeNamed, vs, vmidBitsNamed}
 use Rattle.regime.specs.Regime.{validRegime}
-use Rattle.vtcr.specs.declared.VtcrFields.{VtcrFields}
-use Rattle.vtcr.specs.declared.Vtcr.{Vtcr}
-use Rattle.vtcr.specs.declared.Vtcr.the-variants.{Value, Invalid}
-use Rattle.vtcr.specs.declared.DecodedVtcr.{DecodedVtcr}
+use Rattle.regime.specs.declared.PaSize.{PaSize}
+use Rattle.regime.specs.declared.SizeNamed.the-variants.{Size, Reserved as NoSize}
+use Rattle.regime.specs.declared.SizeNamed.{SizeNamed}
+use Rattle.regime.specs.declared.Stage2Regime.{Stage2Regime}
+use Rattle.regime.specs.declared.VmidBits.{VmidBits}
+use Rattle.vtcr_fields.specs.Fields.{fieldsOf, joined}
+use Rattle.vtcr_fields.specs.declared.VtcrFields.{VtcrFields}
 use Rattle.vtcr.specs.declared.DecodedVtcr.the-variants.{Regime, Nothing}
-
--- the fields of a value: bit 31 is RES1, and DS selects another descriptor format
-abbrev pub fieldsOf : ℕ → VtcrFields
-fieldsOf v =
-    record {
-      t0sz = bits 5 0 v;
-      sl0 = bits 7 6 v;
-      irgn0 = bits 9 8 v;
-      orgn0 = bits 11 10 v;
-      sh0 = bits 13 12 v;
-      tg0 = bits 15 14 v;
-      ps = bits 18 16 v;
-      vs = bits 19 19 v;
-      res1 = bits 31 31 v;
-      ds = bits 32 32 v;
-    }
-
--- no field has more bits than its place
-pub record InRange (f : VtcrFields) : Type 0 where
-  pub t0sz : f .t0sz < 2 ^ 6
-  pub sl0 : f .sl0 < 2 ^ 2
-  pub irgn0 : f .irgn0 < 2 ^ 2
-  pub orgn0 : f .orgn0 < 2 ^ 2
-  pub sh0 : f .sh0 < 2 ^ 2
-  pub tg0 : f .tg0 < 2 ^ 2
-  pub ps : f .ps < 2 ^ 3
-  pub vs : f .vs < 2
-  pub res1 : f .res1 < 2
-  pub ds : f .ds < 2
-
--- the value that has these fields and no other bit
-abbrev pub joined : VtcrFields → ℕ
-joined f =
-    f .t0sz
-    + f .sl0 * 2 ^ 6
-    + f .irgn0 * 2 ^ 8
-    + f .orgn0 * 2 ^ 10
-    + f .sh0 * 2 ^ 12
-    + f .tg0 * 2 ^ 14
-    + f .ps * 2 ^ 16
-    + f .vs * 2 ^ 19
-    + f .res1 * 2 ^ 31
-    + f .ds * 2 ^ 32
+use Rattle.vtcr.specs.declared.DecodedVtcr.{DecodedVtcr}
+use Rattle.vtcr.specs.declared.Vtcr.the-variants.{Value, Invalid}
+use Rattle.vtcr.specs.declared.Vtcr.{Vtcr}
 
 abbrev pub fieldsFor : Stage2Regime → VmidBits → VtcrFields
 fieldsFor r b =

@@ -7,23 +7,10 @@ use regime::PaSize;
 use regime::SizeNamed;
 use regime::Stage2Regime;
 use regime::VmidBits;
+use vtcr_fields::VtcrFields;
 ghost use Prim.Native.Nat.{_<_};
 ghost use mathlib.Core.Path.{_≡_};
-ghost use Rattle.vtcr.specs.Vtcr.{fieldsOf, InRange, joined, regimeNamed, vtcrOf, decodedVtcr};
-
-// The fields of VTCR_EL2.
-struct VtcrFields {
-    t0sz: u64,
-    sl0: u64,
-    irgn0: u64,
-    orgn0: u64,
-    sh0: u64,
-    tg0: u64,
-    ps: u64,
-    vs: u64,
-    res1: u64,
-    ds: u64,
-}
+ghost use Rattle.vtcr.specs.Vtcr.{regimeNamed, vtcrOf, decodedVtcr};
 
 pub enum Vtcr {
     Value(u64),
@@ -78,70 +65,35 @@ pub fn decode_vtcr_el2(v: u64) -> DecodedVtcr
     if fields.ds != 0 {
         return DecodedVtcr::Nothing;
     }
-    fields.regime()
+    regime_named(fields)
 }
 
-impl VtcrFields {
-    fn of(v: u64) -> VtcrFields
-        ensures { λ r. ⌜ r ≡ fieldsOf v ⌝ }
-    {
-        VtcrFields {
-            t0sz: v % 0x40,
-            sl0: v / 0x40 % 4,
-            irgn0: v / 0x100 % 4,
-            orgn0: v / 0x400 % 4,
-            sh0: v / 0x1000 % 4,
-            tg0: v / 0x4000 % 4,
-            ps: v / 0x1_0000 % 8,
-            vs: v / 0x8_0000 % 2,
-            res1: v / 0x8000_0000 % 2,
-            ds: v / 0x1_0000_0000 % 2,
-        }
-    }
-
-    fn join(self) -> u64
-        requires { ⌜ InRange self ⌝ }
-        ensures { λ r. ⌜ r ≡ joined self ⌝ }
-    {
-        self.t0sz
-            + self.sl0 * 0x40
-            + self.irgn0 * 0x100
-            + self.orgn0 * 0x400
-            + self.sh0 * 0x1000
-            + self.tg0 * 0x4000
-            + self.ps * 0x1_0000
-            + self.vs * 0x8_0000
-            + self.res1 * 0x8000_0000
-            + self.ds * 0x1_0000_0000
-    }
-
-    // The regime that the fields name, if none is reserved and it is valid.
-    fn regime(self) -> DecodedVtcr
-        requires { ⌜ self .t0sz < 64 ⌝ }
-        ensures { λ r. ⌜ r ≡ regimeNamed self ⌝ }
-    {
-        let GranuleNamed::Granule(granule) = Granule::from_tg0(self.tg0) else {
-            return DecodedVtcr::Nothing;
-        };
-        let LevelNamed::Level(start_level) = StartLevel::from_sl0(self.sl0) else {
-            return DecodedVtcr::Nothing;
-        };
-        let SizeNamed::Size(pa_size) = PaSize::from_ps(self.ps) else {
-            return DecodedVtcr::Nothing;
-        };
-        let regime = Stage2Regime {
-            granule,
-            ipa_bits: 64 - self.t0sz as u32,
-            start_level,
-            pa_size,
-            walk_shareability: self.sh0,
-            walk_inner: self.irgn0,
-            walk_outer: self.orgn0,
-        };
-        if regime.valid() {
-            DecodedVtcr::Regime(regime, VmidBits::from_vs(self.vs))
-        } else {
-            DecodedVtcr::Nothing
-        }
+// The regime that the fields name, if none is reserved and it is valid.
+fn regime_named(fields: VtcrFields) -> DecodedVtcr
+    requires { ⌜ fields .t0sz < 64 ⌝ }
+    ensures { λ r. ⌜ r ≡ regimeNamed fields ⌝ }
+{
+    let GranuleNamed::Granule(granule) = Granule::from_tg0(fields.tg0) else {
+        return DecodedVtcr::Nothing;
+    };
+    let LevelNamed::Level(start_level) = StartLevel::from_sl0(fields.sl0) else {
+        return DecodedVtcr::Nothing;
+    };
+    let SizeNamed::Size(pa_size) = PaSize::from_ps(fields.ps) else {
+        return DecodedVtcr::Nothing;
+    };
+    let regime = Stage2Regime {
+        granule,
+        ipa_bits: 64 - fields.t0sz as u32,
+        start_level,
+        pa_size,
+        walk_shareability: fields.sh0,
+        walk_inner: fields.irgn0,
+        walk_outer: fields.orgn0,
+    };
+    if regime.valid() {
+        DecodedVtcr::Regime(regime, VmidBits::from_vs(fields.vs))
+    } else {
+        DecodedVtcr::Nothing
     }
 }

@@ -1,12 +1,12 @@
 -- Reading gives back what was joined: the base and the VMID share no bit.
 use Prim.Native.Nat.{ℕ, _+_, _*_, _%_, _^_, _<_}
 use mathlib.Core.Path.{_≡_, _∙_, ap}
-use native.Mathlib.Omega.{arith}
 use native.Mathlib.Nat.{mod-eq-of-lt}
+use native.Mathlib.Omega.{arith}
 use lib.Bits.{or-shifted-r}
 use Rattle.fields.specs.Bits.{bits}
-use Rattle.regime.specs.Codes.{vmids}
 use Rattle.regime.proofs.Bounds.{vmids-range}
+use Rattle.regime.specs.Codes.{vmids}
 use Rattle.vttbr.specs.RoundTrip.{VttbrRoundTrip}
 use Rattle.vttbr.specs.Vttbr.{vttbrOf, baddr, vmidOf}
 

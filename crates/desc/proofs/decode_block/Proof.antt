@@ -1,6 +1,6 @@
 -- `decode_block` meets its contract: the type is tested first, and the rest is `leaf_at` at the address field.
-use Rattle.desc.proofs.Fields.{has-type, not-type}
 use borrow.Author.Needs.{needs}
+use Rattle.desc.proofs.Fields.{has-type, not-type}
 use Rattle.desc.proofs.decode_block.Statement.{statement}
 use Rattle.desc.proofs.decode_block.Tie as tie
 

@@ -1,7 +1,7 @@
 -- `decode_device_block` meets its contract: the type is tested first, then MemAttr.
+use borrow.Author.Needs.{needs}
 use borrow.Author.Tests.{eq-eqb, ne-eqb}
 use Rattle.desc.proofs.Fields.{has-type, not-type}
-use borrow.Author.Needs.{needs}
 use Rattle.desc.proofs.decode_device_block.Statement.{statement}
 use Rattle.desc.proofs.decode_device_block.Tie as tie
 

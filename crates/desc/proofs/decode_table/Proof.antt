@@ -1,8 +1,8 @@
 -- `decode_table` meets its contract: the type is tested first.
 use mathlib.Core.Path.{ap}
+use borrow.Author.Needs.{needs}
 use Rattle.desc.specs.declared.DecodedTable.the-variants.{At}
 use Rattle.desc.proofs.Fields.{has-type, not-type}
-use borrow.Author.Needs.{needs}
 use Rattle.desc.proofs.decode_table.Statement.{statement}
 use Rattle.desc.proofs.decode_table.Tie as tie
 

@@ -1,8 +1,8 @@
 -- `leaf_access_xn` meets its contract: each arm is given the permission.
 use mathlib.Core.Path.{sym, ap}
+use borrow.Author.Needs.{needs}
 use Rattle.perm.specs.declared.Perm.{Perm}
 use Rattle.desc.specs.Words.{leafAccessXn}
-use borrow.Author.Needs.{needs}
 use Rattle.desc.proofs.leaf_access_xn.Statement.{statement}
 use Rattle.desc.proofs.leaf_access_xn.Tie as tie
 

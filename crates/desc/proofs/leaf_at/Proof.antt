@@ -1,8 +1,8 @@
 -- `leaf_at` meets its contract: by the access that S2AP gives.
 use mathlib.Core.Path.{_∙_, sym, ap}
 use borrow.Author.Needs.{needs}
-use Rattle.desc.specs.Descriptor.{executeNever}
 use Rattle.desc.specs.Decoded.{leafOf}
+use Rattle.desc.specs.Descriptor.{executeNever}
 use Rattle.desc.proofs.leaf_at.Statement.{statement}
 use Rattle.desc.proofs.leaf_at.Tie as tie
 

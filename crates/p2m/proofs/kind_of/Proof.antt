@@ -1,10 +1,10 @@
 -- `kind_of` meets its contract: past the list the default row, inside it the row itself.
-use mathlib.Core.Path.{sym, ap}
-use mathlib.Core.List.{List, [], _∷_}
 use Prim.Native.Nat.{ℕ}
+use mathlib.Core.List.{List, []}
+use mathlib.Core.Path.{sym, ap}
+use lib.ListN.{getD, List·getD-eq-default}
 use borrow.Author.Needs.{needs}
 use denote.Ref.{now}
-use lib.ListN.{getD, List·getD-eq-default}
 use Rattle.fields.proofs.Default.{getD-inside}
 use Rattle.p2m.specs.Frame.{noFrame}
 use Rattle.p2m.proofs.kind_of.Statement.{statement}

@@ -1,11 +1,11 @@
 -- `owner_of` meets its contract: past the list nobody; inside it the row's number, which names a domain up to 65,535.
-use mathlib.Core.Path.{_≡_, _∙_, sym, ap}
-use mathlib.Core.List.{List, [], _∷_}
 use Prim.Native.Nat.{ℕ}
+use mathlib.Core.List.{List, []}
+use mathlib.Core.Path.{sym, ap}
+use lib.ListN.{getD, List·getD-eq-default}
 use borrow.Author.Needs.{needs}
 use borrow.Author.Tests.{le-leb, lt-leb}
 use denote.Ref.{now}
-use lib.ListN.{getD, List·getD-eq-default}
 use Rattle.fields.proofs.Default.{getD-inside}
 use Rattle.p2m.specs.Frame.{noFrame, ownerNamed}
 use Rattle.p2m.proofs.owner_of.Statement.{statement}

@@ -1,12 +1,12 @@
--- `vtcr_el2` meets its contract: past the first test the regime is valid, so its fields fit.
-use mathlib.Core.Path.{_≡_, _∙_, sym, ap}
+-- `vtcr_el2` meets its contract: past the first test the regime is valid.
 use mathlib.Core.Bool.{true}
+use mathlib.Core.Path.{_≡_, _∙_, sym, ap}
 use native.Mathlib.Omega.{arith}
-use borrow.Author.Tests.{not-true, not-false}
-use Rattle.vtcr.specs.declared.Vtcr.the-variants.{Value}
-use Rattle.regime.specs.Regime.{validRegime}
-use Rattle.vtcr.proofs.Valid.{facts, in-range}
 use borrow.Author.Needs.{needs}
+use borrow.Author.Tests.{not-true, not-false}
+use Rattle.regime.specs.Regime.{validRegime}
+use Rattle.vtcr.specs.declared.Vtcr.the-variants.{Value}
+use Rattle.vtcr.proofs.Valid.{facts}
 use Rattle.vtcr.proofs.vtcr_el2.Statement.{statement}
 use Rattle.vtcr.proofs.vtcr_el2.Tie as tie
 
@@ -39,11 +39,7 @@ vs-requires : tie.Need-vs-requires
 vs-requires c κs = search needs
 
 join-requires : tie.Need-join-requires
-join-requires c κs =
-    let b = c .before .before .before .before .before in
-    let a = b .before .before .args in
-    rw (c .before .before .before .sl0 .ensures, c .before .before .tg0 .ensures, c .before .ps .ensures, c .vs .ensures)
-    (in-range (a .regime) (a .«vmid-bits») (facts (a .regime) (is-valid b)))
+join-requires c κs = search needs
 
 returns-2 : tie.Need-returns-2
 returns-2 c =

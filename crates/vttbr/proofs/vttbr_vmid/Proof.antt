@@ -1,13 +1,12 @@
 -- `vttbr_vmid` meets its contract: bits 63:48 of a 64-bit value are all that is above bit 47.
-use mathlib.Core.Path.{_≡_, ap}
 use Prim.Native.Nat.{ℕ, _/_, _%_, _^_}
-use native.Mathlib.Omega.{arith}
+use mathlib.Core.Path.{_≡_, ap}
 use native.Mathlib.Nat.{mod-lt}
-use Rattle.fields.specs.Bits.{bits}
-use Rattle.regime.specs.Codes.{vmids}
-use Rattle.regime.proofs.Bounds.{vmids-range}
-use Rattle.fields.specs.Bits.{bits}
+use native.Mathlib.Omega.{arith}
 use borrow.Author.Needs.{needs}
+use Rattle.fields.specs.Bits.{bits}
+use Rattle.regime.proofs.Bounds.{vmids-range}
+use Rattle.regime.specs.Codes.{vmids}
 use Rattle.vttbr.proofs.vttbr_vmid.Statement.{statement}
 use Rattle.vttbr.proofs.vttbr_vmid.Tie as tie
 

@@ -1,7 +1,7 @@
 -- `Granule::level_bits` meets its contract: a page has more than 3 bits.
 use native.Mathlib.Omega.{arith}
-use Rattle.granule.proofs.Bounds.{page-range}
 use borrow.Author.Needs.{needs}
+use Rattle.granule.proofs.Bounds.{page-range}
 use Rattle.granule.proofs.Granule.level_bits.Statement.{statement}
 use Rattle.granule.proofs.Granule.level_bits.Tie as tie
 

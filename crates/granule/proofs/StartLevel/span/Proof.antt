@@ -1,8 +1,8 @@
 -- `StartLevel::span` meets its contract: a walk resolves at most 68 bits.
 use native.Mathlib.Omega.{arith}
-use Rattle.granule.proofs.Bounds.{number-range, span-range}
 use borrow.Author.Needs.{needs}
 use Rattle.granule.specs.StartLevel.{span}
+use Rattle.granule.proofs.Bounds.{number-range, span-range}
 use Rattle.granule.proofs.StartLevel.span.Statement.{statement}
 use Rattle.granule.proofs.StartLevel.span.Tie as tie
 

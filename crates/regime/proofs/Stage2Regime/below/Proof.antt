@@ -1,8 +1,8 @@
 -- `Stage2Regime::below` meets its contract: a walk resolves an index at least.
 use native.Mathlib.Omega.{arith}
-use Rattle.regime.specs.Regime.{below}
-use Rattle.granule.proofs.Bounds.{span-range}
 use borrow.Author.Needs.{needs}
+use Rattle.granule.proofs.Bounds.{span-range}
+use Rattle.regime.specs.Regime.{below}
 use Rattle.regime.proofs.Stage2Regime.below.Statement.{statement}
 use Rattle.regime.proofs.Stage2Regime.below.Tie as tie
 

@@ -1,8 +1,8 @@
 -- `Stage2Regime::input_fits` meets its contract: each early return is a clause that fails, after those that hold.
 use mathlib.Core.Path.{sym}
+use borrow.Author.Needs.{needs}
 use borrow.Author.Tests.{le-leb, lt-leb, lt-ltb, le-ltb}
 use Rattle.regime.specs.Regime.{inputFits}
-use borrow.Author.Needs.{needs}
 use Rattle.regime.proofs.Stage2Regime.input_fits.Statement.{statement}
 use Rattle.regime.proofs.Stage2Regime.input_fits.Tie as tie
 

@@ -1,6 +1,6 @@
 -- `Stage2Regime::t0sz` meets its contract: the size is tested first.
-use borrow.Author.Tests.{le-leb, lt-leb}
 use borrow.Author.Needs.{needs}
+use borrow.Author.Tests.{le-leb, lt-leb}
 use Rattle.regime.proofs.Stage2Regime.t0sz.Statement.{statement}
 use Rattle.regime.proofs.Stage2Regime.t0sz.Tie as tie
 

@@ -1,11 +1,11 @@
 -- `Stage2Regime::table_align` meets its contract: a size of at most 63 bits does not wrap.
 use Prim.Native.Nat.{_-_, _≤_, _<_}
-use native.Mathlib.Omega.{arith}
-use borrow.Author.Tests.{le-leb, lt-leb, lt-ltb, le-ltb}
 use native.Mathlib.Nat.{le-of-lt, max-eq-left, max-eq-right}
+use native.Mathlib.Omega.{arith}
+use borrow.Author.Needs.{needs}
+use borrow.Author.Tests.{le-leb, lt-leb, lt-ltb, le-ltb}
 use Rattle.regime.specs.Regime.{below}
 use Rattle.regime.proofs.Bounds.{size-fits}
-use borrow.Author.Needs.{needs}
 use Rattle.regime.proofs.Stage2Regime.table_align.Statement.{statement}
 use Rattle.regime.proofs.Stage2Regime.table_align.Tie as tie
 

@@ -1,9 +1,9 @@
 -- `Stage2Regime::valid` meets its contract: each early return is a clause that fails, after those that hold.
-use mathlib.Core.Path.{_≡_, _∙_, sym}
 use mathlib.Core.Bool.{true}
+use mathlib.Core.Path.{_≡_, _∙_, sym}
+use borrow.Author.Needs.{needs}
 use borrow.Author.Tests.{le-leb, lt-leb, not-true, not-false}
 use Rattle.regime.specs.Regime.{inputFits, validRegime}
-use borrow.Author.Needs.{needs}
 use Rattle.regime.proofs.Stage2Regime.valid.Statement.{statement}
 use Rattle.regime.proofs.Stage2Regime.valid.Tie as tie
 

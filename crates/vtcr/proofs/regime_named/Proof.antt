@@ -1,29 +1,29 @@
--- `VtcrFields::regime` meets its contract: each look-up decides what the fields name so far.
+-- `regime_named` meets its contract: each look-up decides what the fields name so far.
 use mathlib.Core.Path.{_≡_, _∙_, sym, ap}
 use borrow.Author.Needs.{needs}
-use Rattle.vtcr.specs.declared.DecodedVtcr.the-variants.{Regime}
-use Rattle.granule.specs.declared.GranuleNamed.the-variants.{Granule as IsGranule, Reserved as NoGranule}
-use Rattle.granule.specs.declared.LevelNamed.the-variants.{Level, Reserved as NoLevel}
-use Rattle.regime.specs.declared.SizeNamed.the-variants.{Size, Reserved as NoSize}
 use Rattle.granule.specs.Granule.{granuleNamed}
 use Rattle.granule.specs.StartLevel.{levelNamed}
+use Rattle.granule.specs.declared.GranuleNamed.the-variants.{Granule as IsGranule}
+use Rattle.granule.specs.declared.LevelNamed.the-variants.{Level}
 use Rattle.regime.specs.Codes.{sizeNamed}
+use Rattle.regime.specs.declared.SizeNamed.the-variants.{Size}
 use Rattle.vtcr.specs.Vtcr.{regimeWith, regimeNamed}
-use Rattle.vtcr.proofs.VtcrFields.regime.Statement.{statement}
-use Rattle.vtcr.proofs.VtcrFields.regime.Tie as tie
+use Rattle.vtcr.specs.declared.DecodedVtcr.the-variants.{Regime}
+use Rattle.vtcr.proofs.regime_named.Statement.{statement}
+use Rattle.vtcr.proofs.regime_named.Tie as tie
 
-granule : (k : tie.After-known-told) → granuleNamed (k .before .before .before .before .args .self .tg0) ≡ IsGranule (k .before .granule .given .0 .0)
+granule : (k : tie.After-known-told) → granuleNamed (k .before .before .before .before .args .fields .tg0) ≡ IsGranule (k .before .granule .given .0 .0)
 granule k = sym (k .before .before .before .from-tg0 .ensures) ∙ k .before .granule .given .1
 
 level :
     (k : tie.After-known-told2) →
-    levelNamed (k .before .before .before .before .before .before .before .before .args .self .sl0)
+    levelNamed (k .before .before .before .before .before .before .before .before .args .fields .sl0)
     ≡ Level (k .before .start-level .given .0 .0)
 level k = sym (k .before .before .before .from-sl0 .ensures) ∙ k .before .start-level .given .1
 
 size :
     (k : tie.After-known-told3) →
-    sizeNamed (k .before .before .before .before .before .before .before .before .before .before .before .before .args .self .ps)
+    sizeNamed (k .before .before .before .before .before .before .before .before .before .before .before .before .args .fields .ps)
     ≡ Size (k .before .pa-size .given .0 .0)
 size k = sym (k .before .before .before .from-ps .ensures) ∙ k .before .pa-size .given .1
 
@@ -90,7 +90,7 @@ returns-4 c =
     let s = v .before .before in
     let l = s .before .before .before .before in
     let k = l .before .before .before .before in
-    let r = regimeWith (k .before .before .before .before .args .self) (k .before .granule .given .0 .0) (l .before .start-level .given .0 .0) (s .before .pa-size .given .0 .0) in
+    let r = regimeWith (k .before .before .before .before .args .fields) (k .before .granule .given .0 .0) (l .before .start-level .given .0 .0) (s .before .pa-size .given .0 .0) in
     rw (granule k, level l, size s, sym (v .valid .ensures) ∙ c .before .if1 .taken) (ap (Regime r) (c .from-vs .ensures))
 
 returns-5 : tie.Need-returns-5
@@ -102,8 +102,8 @@ returns-5 c =
     let k = l .before .before .before .before in
     rw (granule k, level l, size s, sym (v .valid .ensures) ∙ c .if1 .left)
 
-pub regime-spec : {M : Type 1} → statement M
-regime-spec =
+pub regime-named-spec : {M : Type 1} → statement M
+regime-named-spec =
     tie.close
     (tie.spec
     from-tg0-requires
