@@ -37,4 +37,4 @@ record: target/staticlib/libprobe.a
 .PHONY: target/staticlib/libprobe.a
 target/staticlib/libprobe.a:
 	@mkdir -p target
-	@rt staticlib probe >target/staticlib.log 2>&1 || { cat target/staticlib.log; exit 1; }
+	@{ rt check probe && rt staticlib probe; } >target/staticlib.log 2>&1 || { cat target/staticlib.log; exit 1; }

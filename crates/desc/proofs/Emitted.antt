@@ -6,12 +6,13 @@ use mathlib.Core.Path.{_≡_, refl, subst, ap}
 use native.Mathlib.Omega.{arith}
 use lib.Dec.{eqb}
 use borrow.Author.Tests.{eq-eqb}
+use Rattle.fields.specs.Numbers.{bit}
 use Rattle.memtype.specs.declared.MemoryType.the-variants.{NormalWbIsh}
 use Rattle.perm.specs.declared.Perm.the-variants.{Ro, Rw, Rx}
 use Rattle.perm.specs.declared.Perm.{Perm}
 use Rattle.desc.specs.Decoded.{decodedPage, decodedBlock, decodedTable, decodedDevice, leafAt, accessNamed, s2apOf}
 use Rattle.desc.specs.Descriptor.{descriptorType, blockType, tableType, pageType, memAttr, s2ap, executeNever, xn, pageAddress, blockAddress}
-use Rattle.desc.specs.Emitted.{bit, Exactly, leafFields, WordFields, EmittedDecodes, Output, leafWith, readWrite}
+use Rattle.desc.specs.Emitted.{Exactly, leafFields, WordFields, EmittedDecodes, Output, leafWith, readWrite}
 use Rattle.desc.specs.Words.{tableWord, pageWord, blockWord, deviceWord, leafAccessXn}
 use Rattle.desc.specs.declared.Access.the-variants.{Perm as Grants}
 use Rattle.desc.specs.declared.AccessXn.{AccessXn}

@@ -2,6 +2,7 @@
 use Prim.Native.Nat.{ℕ, _+_, _%_, _^_, _<_}
 use mathlib.Core.Bool.{Bool, true, false}
 use mathlib.Core.Path.{_≡_}
+use Rattle.fields.specs.Numbers.{bit}
 use Rattle.memtype.specs.Memory.{memAttrOf, shOf}
 use Rattle.memtype.specs.declared.MemoryType.the-variants.{NormalWbIsh, DeviceNGnRnE}
 use Rattle.memtype.specs.declared.MemoryType.{MemoryType}
@@ -23,10 +24,6 @@ readExecute = record { access = Ro; xn = false }
 -- read, write and execute never, as a device is
 abbrev pub readWrite : AccessXn
 readWrite = record { access = Rw; xn = true }
-
-abbrev pub bit : Bool → ℕ
-bit true = 1
-bit false = 0
 
 abbrev pub tableFields : Fields
 tableFields = record { kind = tableType; mem = 0; access = 0; share = 0; flag = 0; never = 0 }

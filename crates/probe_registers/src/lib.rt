@@ -2,8 +2,14 @@
 use regime::Stage2Regime;
 use regime::VmidBits;
 use vtcr::DecodedVtcr;
+ghost use Prim.Native.Nat.{_+_};
+ghost use mathlib.Core.Path.{_≡_};
+ghost use Rattle.regime.specs.Codes.{vs};
+ghost use Rattle.probe_registers.specs.Answers.{decodedNumbers, partNumbers, registersAnswer};
 
-pub fn answer(op: u32, x: &[u64; 8]) -> [u64; 8] {
+pub fn answer(op: u32, x: &[u64; 8]) -> [u64; 8]
+    ensures { λ r. ⌜ r ≡ registersAnswer op (now (x .entry)) ⌝ }
+{
     match op {
         16 => decoded(vtcr::decode_vtcr_el2(x[0])),
         17 => [vttbr::vttbr(x[0], x[1]), 0, 0, 0, 0, 0, 0, 0],
@@ -12,7 +18,9 @@ pub fn answer(op: u32, x: &[u64; 8]) -> [u64; 8] {
     }
 }
 
-fn decoded(d: DecodedVtcr) -> [u64; 8] {
+fn decoded(d: DecodedVtcr) -> [u64; 8]
+    ensures { λ r. ⌜ r ≡ decodedNumbers d ⌝ }
+{
     match d {
         DecodedVtcr::Regime(r, b) => regime_numbers(r, b),
         DecodedVtcr::Nothing => [0; 8],
@@ -20,7 +28,9 @@ fn decoded(d: DecodedVtcr) -> [u64; 8] {
 }
 
 // One more than the width's code, so that it is not nothing, then the parameters in the order of the struct.
-fn regime_numbers(r: Stage2Regime, b: VmidBits) -> [u64; 8] {
+fn regime_numbers(r: Stage2Regime, b: VmidBits) -> [u64; 8]
+    ensures { λ s. ⌜ s ≡ decodedNumbers (DecodedVtcr.Regime r b) ⌝ }
+{
     let granule = r.granule;
     let start_level = r.start_level;
     let pa_size = r.pa_size;
@@ -36,14 +46,18 @@ fn regime_numbers(r: Stage2Regime, b: VmidBits) -> [u64; 8] {
     ]
 }
 
-fn width_number(b: VmidBits) -> u64 {
+fn width_number(b: VmidBits) -> u64
+    ensures { λ r. ⌜ r ≡ vs b + 1 ⌝ }
+{
     match b {
         VmidBits::B8 => 1,
         VmidBits::B16 => 2,
     }
 }
 
-fn vttbr_parts(v: u64) -> [u64; 8] {
+fn vttbr_parts(v: u64) -> [u64; 8]
+    ensures { λ r. ⌜ r ≡ partNumbers v ⌝ }
+{
     [
         vttbr::vttbr_table(v),
         vttbr::vttbr_vmid(v, VmidBits::B8) as u64,

@@ -4,6 +4,8 @@ use desc::DecodedLeaf;
 use desc::DecodedTable;
 use memtype::MemoryType;
 use perm::Perm;
+ghost use mathlib.Core.Path.{_≡_};
+ghost use Rattle.probe_words.specs.Answers.{permNamed, permNumbers, memoryNumbers, encodingNumbers, constantNumbers, wordNumbers, leafNumbers, tableNumbers, deviceNumbers, wordsAnswer};
 
 // A permission by its code.
 enum PermNamed {
@@ -11,7 +13,9 @@ enum PermNamed {
     Nothing,
 }
 
-pub fn answer(op: u32, x: &[u64; 8]) -> [u64; 8] {
+pub fn answer(op: u32, x: &[u64; 8]) -> [u64; 8]
+    ensures { λ r. ⌜ r ≡ wordsAnswer op (now (x .entry)) ⌝ }
+{
     match op {
         3 => permission(x[0], x[1] != 0),
         4 => memory_type(x[0]),
@@ -20,11 +24,14 @@ pub fn answer(op: u32, x: &[u64; 8]) -> [u64; 8] {
         7 => leaf(desc::decode_page(x[0])),
         8 => leaf(desc::decode_block(x[0])),
         9 => table(desc::decode_table(x[0])),
-        _ => device(desc::decode_device_block(x[0])),
+        10 => device(desc::decode_device_block(x[0])),
+        _ => [0; 8],
     }
 }
 
-fn permission(code: u64, wx_exempt: bool) -> [u64; 8] {
+fn permission(code: u64, wx_exempt: bool) -> [u64; 8]
+    ensures { λ r. ⌜ r ≡ permNumbers (permNamed code) «wx_exempt» ⌝ }
+{
     let PermNamed::Perm(p) = perm_named(code) else {
         return [0; 8];
     };
@@ -42,7 +49,9 @@ fn permission(code: u64, wx_exempt: bool) -> [u64; 8] {
     ]
 }
 
-fn perm_named(code: u64) -> PermNamed {
+fn perm_named(code: u64) -> PermNamed
+    ensures { λ r. ⌜ r ≡ permNamed code ⌝ }
+{
     match code {
         1 => PermNamed::Perm(Perm::Ro),
         2 => PermNamed::Perm(Perm::Rw),
@@ -51,7 +60,9 @@ fn perm_named(code: u64) -> PermNamed {
     }
 }
 
-fn memory_type(code: u64) -> [u64; 8] {
+fn memory_type(code: u64) -> [u64; 8]
+    ensures { λ r. ⌜ r ≡ memoryNumbers code ⌝ }
+{
     match code {
         0 => encodings(MemoryType::NormalWbIsh),
         1 => encodings(MemoryType::NormalNonCacheable),
@@ -60,7 +71,9 @@ fn memory_type(code: u64) -> [u64; 8] {
     }
 }
 
-fn encodings(t: MemoryType) -> [u64; 8] {
+fn encodings(t: MemoryType) -> [u64; 8]
+    ensures { λ r. ⌜ r ≡ encodingNumbers t ⌝ }
+{
     [
         1,
         t.stage1_mair_byte() as u64,
@@ -73,7 +86,9 @@ fn encodings(t: MemoryType) -> [u64; 8] {
     ]
 }
 
-fn constants() -> [u64; 8] {
+fn constants() -> [u64; 8]
+    ensures { λ r. ⌜ r ≡ constantNumbers ⌝ }
+{
     [
         desc::TABLE,
         desc::PAGE,
@@ -86,7 +101,9 @@ fn constants() -> [u64; 8] {
     ]
 }
 
-fn words() -> [u64; 8] {
+fn words() -> [u64; 8]
+    ensures { λ r. ⌜ r ≡ wordNumbers ⌝ }
+{
     [
         desc::BLOCK_ROX,
         desc::PAGE_RW,
@@ -99,7 +116,9 @@ fn words() -> [u64; 8] {
     ]
 }
 
-fn leaf(l: DecodedLeaf) -> [u64; 8] {
+fn leaf(l: DecodedLeaf) -> [u64; 8]
+    ensures { λ r. ⌜ r ≡ leafNumbers l ⌝ }
+{
     let DecodedLeaf::Leaf(d) = l else {
         return [0; 8];
     };
@@ -107,14 +126,18 @@ fn leaf(l: DecodedLeaf) -> [u64; 8] {
     [1, d.pa, perm.code() as u64, d.xn as u64, 0, 0, 0, 0]
 }
 
-fn table(t: DecodedTable) -> [u64; 8] {
+fn table(t: DecodedTable) -> [u64; 8]
+    ensures { λ r. ⌜ r ≡ tableNumbers t ⌝ }
+{
     let DecodedTable::At(pa) = t else {
         return [0; 8];
     };
     [1, pa, 0, 0, 0, 0, 0, 0]
 }
 
-fn device(b: DecodedBlock) -> [u64; 8] {
+fn device(b: DecodedBlock) -> [u64; 8]
+    ensures { λ r. ⌜ r ≡ deviceNumbers b ⌝ }
+{
     let DecodedBlock::Device(d) = b else {
         return [0; 8];
     };

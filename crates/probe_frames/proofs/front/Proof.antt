@@ -1,8 +1,12 @@
--- `front` is safe: the front of a slice has the length that was asked for.
-use mathlib.Core.Path.{sym}
+-- `front` meets its contract: the front of a list, or all of a shorter one.
+use Prim.Native.Nat.{ℕ}
+use mathlib.Core.List.{List}
+use mathlib.Core.Path.{_∙_, sym, ap}
 use native.Mathlib.Nat.{le-of-lt}
-use lib.Seq.{length-take-le}
+use lib.Seq.{length-take-le, take-all}
 use borrow.Author.Needs.{needs}
+use denote.Ref.{now}
+use Rattle.probe_frames.specs.Answers.{frameNumbers}
 use Rattle.probe_frames.proofs.front.Statement.{statement}
 use Rattle.probe_frames.proofs.front.Tie as tie
 
@@ -19,7 +23,9 @@ frame-numbers-requires-2 : tie.Need-frame-numbers-requires-2
 frame-numbers-requires-2 c κs = search needs
 
 returns-2 : tie.Need-returns-2
-returns-2 c = search needs
+returns-2 c =
+    let a = c .before .before .args in
+    c .frame-numbers2 .ensures ∙ sym (ap (λ (l : List (List ℕ)). frameNumbers l (a .mfn)) (take-all (a .count) (now (a .frames)) (c .before .if1 .left)))
 
 pub front-spec : {M : Type 1} → statement M
 front-spec =
