@@ -4,7 +4,8 @@ use mathlib.Core.Bool.{Bool, true, false, not}
 use mathlib.Core.List.{List, [], _∷_}
 use lib.Dec.{eqb}
 use lib.ListN.{getD}
-use Rattle.desc.specs.Decoded.{decodedPage, decodedBlock, decodedTable, decodedDevice}
+use Rattle.desc.specs.Decoded.{s2apOf, decodedPage, decodedBlock, decodedTable, decodedDevice}
+use Rattle.desc.specs.Descriptor.{blockType, tableType, pageType}
 use Rattle.desc.specs.Words.{pageWord, blockWord, imageWord, deviceWord, leafAccessXn}
 use Rattle.desc.specs.declared.DecodedBlock.the-variants.{Device, Nothing as NoBlock}
 use Rattle.desc.specs.declared.DecodedBlock.{DecodedBlock}
@@ -52,7 +53,16 @@ memoryNumbers = named typeNumber (NormalWbIsh ∷ NormalNonCacheable ∷ DeviceN
 
 -- 5: table, page, block, access flag, S2AP of read and write and of read, execute never, the common attributes of a leaf
 abbrev pub constantNumbers : List ℕ
-constantNumbers = 3 ∷ 3 ∷ 1 ∷ (2 ^ 10) ∷ (3 * 2 ^ 6) ∷ (2 ^ 6) ∷ (2 ^ 54) ∷ (leafBits NormalWbIsh + 2 ^ 10) ∷ []
+constantNumbers =
+    tableType
+    ∷ pageType
+    ∷ blockType
+    ∷ (2 ^ 10)
+    ∷ (s2apOf Rw * 2 ^ 6)
+    ∷ (s2apOf Ro * 2 ^ 6)
+    ∷ (2 ^ 54)
+    ∷ (leafBits NormalWbIsh + 2 ^ 10)
+    ∷ []
 
 -- 6: the words of leaves
 abbrev pub wordNumbers : List ℕ
