@@ -24,7 +24,7 @@ inputFits r =
     && leb (r .«ipa_bits») (span (r .«start_level») (r .granule))
     && ltb (below r) (r .«ipa_bits»)
 
--- the attributes of the walk's fetches have two bits each
+-- and the attributes of the walk's fetches have two bits each
 unfoldable pub validRegime : Stage2Regime → Bool
 validRegime r =
     inputFits r && leb (r .«walk_shareability») 0b11 && leb (r .«walk_inner») 0b11 && leb (r .«walk_outer») 0b11
@@ -34,7 +34,7 @@ abbrev pub t0szOf : Stage2Regime → Determined
 t0szOf r = pick (leb (r .«ipa_bits») 64) (Value (64 - r .«ipa_bits»)) Undefined
 
 -- the start level's table has 8 bytes for each value of the bits that it resolves, and is aligned to its size, at least to 64 bytes;
--- Undefined where it resolves no whole number of bits, or where the size is no 64-bit number
+-- Undefined where the input has fewer bits than the walk resolves below, or where the size is no 64-bit number
 abbrev pub tableAlign : Stage2Regime → Determined
 tableAlign r =
     pick (leb (below r) (r .«ipa_bits») && ltb (r .«ipa_bits» - below r) 61)

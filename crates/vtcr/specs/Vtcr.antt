@@ -25,6 +25,7 @@ use Rattle.vtcr.specs.declared.DecodedVtcr.{DecodedVtcr}
 use Rattle.vtcr.specs.declared.Vtcr.the-variants.{Value, Invalid}
 use Rattle.vtcr.specs.declared.Vtcr.{Vtcr}
 
+-- the fields of a regime and a width: RES1 is one, and DS, HA and HD are zero
 abbrev pub fieldsFor : Stage2Regime → VmidBits → VtcrFields
 fieldsFor r b =
     record {
@@ -47,6 +48,7 @@ abbrev pub ifValid : Bool → Stage2Regime → VmidBits → DecodedVtcr
 ifValid true r b = Regime r b
 ifValid false r b = Nothing
 
+-- the regime of these fields, by the granule, level and size that they name
 abbrev pub regimeWith : VtcrFields → Granule → StartLevel → PaSize → Stage2Regime
 regimeWith f g l s =
     record {

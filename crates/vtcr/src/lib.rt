@@ -54,7 +54,7 @@ pub fn baleen_vtcr_el2() -> Vtcr
     vtcr_el2(regime::BALEEN_STAGE2, regime::BALEEN_VMID_BITS)
 }
 
-// The regime that a VTCR_EL2 value names, if the encoder could have made it.
+// The regime that a VTCR_EL2 value names. Bits that are neither RES1 nor DS nor a field are not read.
 pub fn decode_vtcr_el2(v: u64) -> DecodedVtcr
     ensures { λ r. ⌜ r ≡ decodedVtcr v ⌝ }
 {
