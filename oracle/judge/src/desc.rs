@@ -172,16 +172,7 @@ fn constants(_: &Words) -> Words {
 }
 
 fn emitted_words(_: &Words) -> Words {
-    [
-        desc::BLOCK_ROX,
-        desc::PAGE_RW,
-        desc::PAGE_RO,
-        desc::PAGE_RX,
-        desc::BLOCK_RW,
-        desc::BLOCK_RO,
-        desc::BLOCK_RW_X,
-        desc::BLOCK_DEVICE,
-    ]
+    LEAVES
 }
 
 fn page(x: &Words) -> Words {
@@ -204,9 +195,8 @@ fn device(x: &Words) -> Words {
     decode_device_block(x[0]).map_or(NOTHING, |decoded| words([1, decoded.pa, decoded.xn.into()]))
 }
 
-/// Every word that is emitted, as yet without an address.
-const EMITTED: [u64; 9] = [
-    desc::TABLE,
+/// Every leaf that is emitted, as yet without an address.
+const LEAVES: [u64; 8] = [
     desc::BLOCK_ROX,
     desc::PAGE_RW,
     desc::PAGE_RO,
@@ -216,6 +206,12 @@ const EMITTED: [u64; 9] = [
     desc::BLOCK_RW_X,
     desc::BLOCK_DEVICE,
 ];
+
+/// Every word that is emitted.
+const EMITTED: [u64; 9] = {
+    let [a, b, c, d, e, f, g, h] = LEAVES;
+    [desc::TABLE, a, b, c, d, e, f, g, h]
+};
 
 /// Output addresses: both ends of the page and of the block field, and some of a real layout.
 const ADDRESSES: [u64; 9] = [
