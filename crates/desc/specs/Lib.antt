@@ -1,4 +1,3 @@
-pub mod Decoded
 pub mod Descriptor
-pub mod Emitted
+pub mod WordFields
 pub mod Words

@@ -31,3 +31,9 @@ abbrev pub leafAccessXn : Perm → Bool → AccessXn
 leafAccessXn Ro exempt = record { access = Ro; xn = true }
 leafAccessXn Rw exempt = record { access = Rw; xn = not exempt }
 leafAccessXn Rx exempt = record { access = Ro; xn = false }
+
+-- S2AP of an access: 11 reads and writes, 01 reads
+abbrev pub s2apOf : Perm → ℕ
+s2apOf Ro = 0b01
+s2apOf Rw = 0b11
+s2apOf Rx = 0b01

@@ -7,14 +7,20 @@ ghost use Rattle.probe.specs.Answers.{answerOf};
 pub fn answer(op: u32, x: &[u64; 8]) -> [u64; 8]
     ensures { λ r. ⌜ r ≡ answerOf op (now (x .entry)) ⌝ }
 {
+    if op == 0 {
+        return probe_frames::frame(x);
+    }
     if op < 3 {
-        return probe_frames::answer(op, x);
+        return probe_levels::answer(op, x);
     }
     if op < 11 {
         return probe_words::answer(op, x);
     }
-    if op < 16 {
-        return probe_regimes::answer(op, x);
+    if op < 15 {
+        return probe_granules::answer(op, x);
+    }
+    if op == 15 {
+        return probe_regimes::stage2_regime(x);
     }
     probe_registers::answer(op, x)
 }

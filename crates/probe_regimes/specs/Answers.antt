@@ -1,57 +1,32 @@
--- The functions of granule and regime, and the encoding of VTCR_EL2, by their numbers.
+-- Function 15: a regime.
 use Prim.Native.Nat.{ℕ, _%_, _^_}
 use mathlib.Core.List.{List, [], _∷_}
 use lib.ListN.{getD}
-use Rattle.fields.specs.Named.{named}
 use Rattle.fields.specs.Numbers.{eight, bit}
-use Rattle.granule.specs.Granule.{pageBits, levelBits, tg0, granuleNamed}
-use Rattle.granule.specs.StartLevel.{number, sl0, levelNamed, span}
-use Rattle.granule.specs.declared.Granule.the-variants.{K4, K16, K64}
+use Rattle.granule.specs.Granule.{granuleNamed}
+use Rattle.granule.specs.StartLevel.{levelNamed}
 use Rattle.granule.specs.declared.GranuleNamed.the-variants.{Granule as IsGranule, Reserved as NoGranule}
 use Rattle.granule.specs.declared.GranuleNamed.{GranuleNamed}
 use Rattle.granule.specs.declared.LevelNamed.the-variants.{Level, Reserved as NoLevel}
 use Rattle.granule.specs.declared.LevelNamed.{LevelNamed}
-use Rattle.regime.specs.Codes.{ps, sizeNamed, vs, vmids}
+use Rattle.probe_granules.specs.Answers.{widthNamed}
+use Rattle.probe_granules.specs.declared.WidthNamed.the-variants.{Width, Nothing as NoWidth}
+use Rattle.probe_granules.specs.declared.WidthNamed.{WidthNamed}
+use Rattle.regime.specs.Codes.{sizeNamed}
 use Rattle.regime.specs.Regime.{validRegime, t0szOf, tableAlign}
 use Rattle.regime.specs.declared.Determined.the-variants.{Value, Undefined}
 use Rattle.regime.specs.declared.Determined.{Determined}
 use Rattle.regime.specs.declared.SizeNamed.the-variants.{Size, Reserved as NoSize}
 use Rattle.regime.specs.declared.SizeNamed.{SizeNamed}
 use Rattle.regime.specs.declared.Stage2Regime.{Stage2Regime}
-use Rattle.regime.specs.declared.VmidBits.the-variants.{B8, B16}
 use Rattle.regime.specs.declared.VmidBits.{VmidBits}
 use Rattle.vtcr.specs.Vtcr.{vtcrOf}
 use Rattle.vtcr.specs.declared.Vtcr.the-variants.{Value as Encoded, Invalid}
 use Rattle.vtcr.specs.declared.Vtcr.{Vtcr}
 use Rattle.probe_regimes.specs.declared.RegimeNamed.the-variants.{Regime, Nothing as NoRegime}
 use Rattle.probe_regimes.specs.declared.RegimeNamed.{RegimeNamed}
-use Rattle.probe_regimes.specs.declared.WidthNamed.the-variants.{Width, Nothing as NoWidth}
-use Rattle.probe_regimes.specs.declared.WidthNamed.{WidthNamed}
 
--- 11: a granule by TG0
-abbrev pub granuleNumbers : GranuleNamed → List ℕ
-granuleNumbers (IsGranule g) = eight (1 ∷ pageBits g ∷ levelBits g ∷ tg0 g ∷ [])
-granuleNumbers NoGranule = eight []
-
--- 12: a start level by SL0
-abbrev pub levelNumbers : LevelNamed → List ℕ
-levelNumbers (Level l) = eight (1 ∷ number l ∷ sl0 l ∷ span l K4 ∷ span l K16 ∷ span l K64 ∷ [])
-levelNumbers NoLevel = eight []
-
--- 13: an output size by PS
-abbrev pub sizeNumbers : SizeNamed → List ℕ
-sizeNumbers (Size s) = eight (1 ∷ ps s ∷ [])
-sizeNumbers NoSize = eight []
-
--- 14: the width of a VMID by VS
-abbrev pub widthNamed : ℕ → WidthNamed
-widthNamed = named vs (B8 ∷ B16 ∷ []) Width NoWidth
-
-abbrev pub widthNumbers : WidthNamed → List ℕ
-widthNumbers (Width b) = eight (1 ∷ vs b ∷ vmids b ∷ [])
-widthNumbers NoWidth = eight []
-
--- 15: a regime by its fields in the struct's order, then the width of a VMID
+-- a regime by its fields in the struct's order, then the width of a VMID
 abbrev pub regimeFrom : List ℕ → GranuleNamed → LevelNamed → SizeNamed → RegimeNamed
 regimeFrom x (IsGranule g) (Level l) (Size s) =
     Regime
@@ -104,14 +79,5 @@ regimeNumbers (Regime r) (Width b) = numbersOf r b
 regimeNumbers (Regime r) NoWidth = eight []
 regimeNumbers NoRegime w = eight []
 
--- the answer of function op at the numbers x
-unfoldable pub regimesAnswer : ℕ → List ℕ → List ℕ
-regimesAnswer op x =
-    named (λ (e : ℕ × List ℕ). e .0)
-    ((11, granuleNumbers (granuleNamed (getD x 0 0)))
-    ∷ (12, levelNumbers (levelNamed (getD x 0 0)))
-    ∷ (13, sizeNumbers (sizeNamed (getD x 0 0)))
-    ∷ (14, widthNumbers (widthNamed (getD x 0 0)))
-    ∷ (15, regimeNumbers (regimeNamed x) (widthNamed (getD x 7 0)))
-    ∷ [])
-    (λ e. e .1) (eight []) op
+unfoldable pub regimeAnswer : List ℕ → List ℕ
+regimeAnswer x = regimeNumbers (regimeNamed x) (widthNamed (getD x 7 0))

@@ -1,8 +1,9 @@
-// granule, regime and the encoding of VTCR_EL2 by numbers: each parameter by the code of its field.
+// regime and the encoding of VTCR_EL2 by numbers: each parameter by the code of its field.
 use granule::Granule;
 use granule::GranuleNamed;
 use granule::LevelNamed;
 use granule::StartLevel;
+use probe_granules::WidthNamed;
 use regime::Determined;
 use regime::PaSize;
 use regime::SizeNamed;
@@ -10,108 +11,21 @@ use regime::Stage2Regime;
 use regime::VmidBits;
 use vtcr::Vtcr;
 ghost use mathlib.Core.Path.{_≡_};
-ghost use lib.ListN.{getD};
-ghost use Rattle.granule.specs.Granule.{granuleNamed};
-ghost use Rattle.granule.specs.StartLevel.{levelNamed};
-ghost use Rattle.regime.specs.Codes.{sizeNamed};
-ghost use Rattle.probe_regimes.specs.Answers.{granuleNumbers, levelNumbers, sizeNumbers, widthNamed, widthNumbers, regimeNamed, isDetermined, determined, isEncoded, encoded, numbersOf, regimeNumbers, regimesAnswer};
-
-// The width of a VMID by its code.
-enum WidthNamed {
-    Width(VmidBits),
-    Nothing,
-}
+ghost use Rattle.probe_regimes.specs.Answers.{regimeNamed, isDetermined, determined, isEncoded, encoded, numbersOf, regimeAnswer};
 
 enum RegimeNamed {
     Regime(Stage2Regime),
     Nothing,
 }
 
-pub fn answer(op: u32, x: &[u64; 8]) -> [u64; 8]
-    ensures { λ r. ⌜ r ≡ regimesAnswer op (now (x .entry)) ⌝ }
-{
-    match op {
-        11 => granule(x[0]),
-        12 => start_level(x[0]),
-        13 => pa_size(x[0]),
-        14 => vmid_bits(x[0]),
-        15 => stage2_regime(x),
-        _ => [0; 8],
-    }
-}
-
-fn granule(tg0: u64) -> [u64; 8]
-    ensures { λ r. ⌜ r ≡ granuleNumbers (granuleNamed tg0) ⌝ }
-{
-    let GranuleNamed::Granule(g) = Granule::from_tg0(tg0) else {
-        return [0; 8];
-    };
-    [
-        1,
-        g.page_bits() as u64,
-        g.level_bits() as u64,
-        g.tg0(),
-        0,
-        0,
-        0,
-        0,
-    ]
-}
-
-fn start_level(sl0: u64) -> [u64; 8]
-    ensures { λ r. ⌜ r ≡ levelNumbers (levelNamed sl0) ⌝ }
-{
-    let LevelNamed::Level(l) = StartLevel::from_sl0(sl0) else {
-        return [0; 8];
-    };
-    [
-        1,
-        l.number() as u64,
-        l.sl0(),
-        l.span(Granule::K4) as u64,
-        l.span(Granule::K16) as u64,
-        l.span(Granule::K64) as u64,
-        0,
-        0,
-    ]
-}
-
-fn pa_size(ps: u64) -> [u64; 8]
-    ensures { λ r. ⌜ r ≡ sizeNumbers (sizeNamed ps) ⌝ }
-{
-    let SizeNamed::Size(s) = PaSize::from_ps(ps) else {
-        return [0; 8];
-    };
-    [1, s.ps(), 0, 0, 0, 0, 0, 0]
-}
-
-fn vmid_bits(vs: u64) -> [u64; 8]
-    ensures { λ r. ⌜ r ≡ widthNumbers (widthNamed vs) ⌝ }
-{
-    let WidthNamed::Width(b) = width_named(vs) else {
-        return [0; 8];
-    };
-    [1, b.vs(), b.count() as u64, 0, 0, 0, 0, 0]
-}
-
-fn width_named(vs: u64) -> WidthNamed
-    ensures { λ r. ⌜ r ≡ widthNamed vs ⌝ }
-{
-    match vs {
-        0 => WidthNamed::Width(VmidBits::B8),
-        1 => WidthNamed::Width(VmidBits::B16),
-        _ => WidthNamed::Nothing,
-    }
-}
-
 // The regime's parameters in the order of the struct, then the width of a VMID.
-fn stage2_regime(x: &[u64; 8]) -> [u64; 8]
-    ensures { λ r. ⌜ r ≡ regimeNumbers (regimeNamed (now (x .entry))) (widthNamed (getD (now (x .entry)) 7 0)) ⌝ }
+pub fn stage2_regime(x: &[u64; 8]) -> [u64; 8]
+    ensures { λ r. ⌜ r ≡ regimeAnswer (now (x .entry)) ⌝ }
 {
     let RegimeNamed::Regime(r) = regime_named(x) else {
         return [0; 8];
     };
-    let WidthNamed::Width(b) = width_named(x[7]) else {
+    let WidthNamed::Width(b) = probe_granules::width_named(x[7]) else {
         return [0; 8];
     };
     numbers_of(r, b)

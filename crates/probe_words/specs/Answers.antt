@@ -4,15 +4,16 @@ use mathlib.Core.Bool.{Bool, true, false, not}
 use mathlib.Core.List.{List, [], _∷_}
 use lib.Dec.{eqb}
 use lib.ListN.{getD}
-use Rattle.desc.specs.Decoded.{s2apOf, decodedPage, decodedBlock, decodedTable, decodedDevice}
+use Rattle.decode.specs.Decoded.{decodedPage, decodedBlock, decodedTable, decodedDevice}
+use Rattle.decode.specs.declared.DecodedBlock.the-variants.{Device, Nothing as NoBlock}
+use Rattle.decode.specs.declared.DecodedBlock.{DecodedBlock}
+use Rattle.decode.specs.declared.DecodedLeaf.the-variants.{Leaf, Nothing as NoLeaf}
+use Rattle.decode.specs.declared.DecodedLeaf.{DecodedLeaf}
+use Rattle.decode.specs.declared.DecodedTable.the-variants.{At, Nothing as NoTable}
+use Rattle.decode.specs.declared.DecodedTable.{DecodedTable}
 use Rattle.desc.specs.Descriptor.{blockType, tableType, pageType}
 use Rattle.desc.specs.Words.{pageWord, blockWord, imageWord, deviceWord, leafAccessXn}
-use Rattle.desc.specs.declared.DecodedBlock.the-variants.{Device, Nothing as NoBlock}
-use Rattle.desc.specs.declared.DecodedBlock.{DecodedBlock}
-use Rattle.desc.specs.declared.DecodedLeaf.the-variants.{Leaf, Nothing as NoLeaf}
-use Rattle.desc.specs.declared.DecodedLeaf.{DecodedLeaf}
-use Rattle.desc.specs.declared.DecodedTable.the-variants.{At, Nothing as NoTable}
-use Rattle.desc.specs.declared.DecodedTable.{DecodedTable}
+use Rattle.desc.specs.Words.{s2apOf}
 use Rattle.fields.specs.Named.{named}
 use Rattle.fields.specs.Numbers.{eight, bit}
 use Rattle.memtype.specs.Memory.{mairByte, leafBits, shareabilityBits}

@@ -1,7 +1,7 @@
 // perm, memtype and desc by numbers.
-use desc::DecodedBlock;
-use desc::DecodedLeaf;
-use desc::DecodedTable;
+use decode::DecodedBlock;
+use decode::DecodedLeaf;
+use decode::DecodedTable;
 use memtype::MemoryType;
 use perm::Perm;
 ghost use mathlib.Core.Path.{_≡_};
@@ -21,10 +21,10 @@ pub fn answer(op: u32, x: &[u64; 8]) -> [u64; 8]
         4 => memory_type(x[0]),
         5 => constants(),
         6 => words(),
-        7 => leaf(desc::decode_page(x[0])),
-        8 => leaf(desc::decode_block(x[0])),
-        9 => table(desc::decode_table(x[0])),
-        10 => device(desc::decode_device_block(x[0])),
+        7 => leaf(decode::decode_page(x[0])),
+        8 => leaf(decode::decode_block(x[0])),
+        9 => table(decode::decode_table(x[0])),
+        10 => device(decode::decode_device_block(x[0])),
         _ => [0; 8],
     }
 }

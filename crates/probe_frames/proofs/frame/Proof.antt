@@ -1,5 +1,6 @@
 -- `frame` meets its contract: the rows, and the front of them.
 use borrow.Author.Needs.{needs}
+use Rattle.probe_frames.specs.Answers.{frameAnswer}
 use Rattle.probe_frames.proofs.frame.Statement.{statement}
 use Rattle.probe_frames.proofs.frame.Tie as tie
 
@@ -36,21 +37,21 @@ slice-aggregate-front c = search needs
 element-copy-out-front : tie.Need-element-copy-out-front
 element-copy-out-front c = search needs
 
-element-copy-out-low : tie.Need-element-copy-out-low
-element-copy-out-low c = search needs
+element-copy-out-front-2 : tie.Need-element-copy-out-front-2
+element-copy-out-front-2 c = search needs
 
-low-requires : tie.Need-low-requires
-low-requires c κs = search needs
+cast-front : tie.Need-cast-front
+cast-front c = search needs
 
 front-requires : tie.Need-front-requires
 front-requires c κs = search needs
 
 returns : tie.Need-returns
+unfolding frameAnswer
 returns c =
-    let r = c .before .before .before .before .before in
+    let r = c .before .before .before .before in
     simp (
       c .front .ensures,
-      c .before .low .ensures,
       r .row3 .ensures,
       r .before .before .before .row2 .ensures,
       r .before .before .before .before .before .before .row .ensures,
@@ -71,7 +72,7 @@ frame-spec =
     row-requires-3
     slice-aggregate-front
     element-copy-out-front
-    element-copy-out-low
-    low-requires
+    element-copy-out-front-2
+    cast-front
     front-requires
     returns)

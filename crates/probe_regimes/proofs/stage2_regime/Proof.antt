@@ -2,7 +2,7 @@
 use mathlib.Core.Path.{_≡_, _∙_, sym}
 use borrow.Author.Needs.{needs}
 use denote.Ref.{now}
-use Rattle.probe_regimes.specs.Answers.{regimeNamed}
+use Rattle.probe_regimes.specs.Answers.{regimeNamed, regimeAnswer}
 use Rattle.probe_regimes.specs.declared.RegimeNamed.the-variants.{Regime}
 use Rattle.probe_regimes.proofs.stage2_regime.Statement.{statement}
 use Rattle.probe_regimes.proofs.stage2_regime.Tie as tie
@@ -20,6 +20,7 @@ enum-told : tie.Need-enum-told
 enum-told c = search needs
 
 returns : tie.Need-returns
+unfolding regimeAnswer
 returns c = rw (sym (c .before .before .regime-named .ensures) ∙ c .enum-told .given .1)
 
 element-copy-out-width-named : tie.Need-element-copy-out-width-named
@@ -35,12 +36,14 @@ enum-told-2 : tie.Need-enum-told-2
 enum-told-2 c = search needs
 
 returns-2 : tie.Need-returns-2
+unfolding regimeAnswer
 returns-2 c = rw (regime (c .before .before .before .before), sym (c .before .before .width-named .ensures) ∙ c .enum-told2 .given .1)
 
 numbers-of-requires : tie.Need-numbers-of-requires
 numbers-of-requires c κs = search needs
 
 returns-3 : tie.Need-returns-3
+unfolding regimeAnswer
 returns-3 c =
     let w = c .before .before .before .before in
     rw (regime (w .before .before), sym (w .width-named .ensures) ∙ c .before .before .b .given .1) (c .numbers-of .ensures)
