@@ -25,7 +25,8 @@ frame-numbers-requires-2 c κs = search needs
 returns-2 : tie.Need-returns-2
 returns-2 c =
     let a = c .before .before .args in
-    c .frame-numbers2 .ensures ∙ sym (ap (λ (l : List (List ℕ)). frameNumbers l (a .mfn)) (take-all (a .count) (now (a .frames)) (c .before .if1 .left)))
+    c .frame-numbers2 .ensures
+    ∙ sym (ap (λ (l : List (List ℕ)). frameNumbers l (a .mfn)) (take-all (a .count) (now (a .frames)) (c .before .if1 .left)))
 
 pub front-spec : {M : Type 1} → statement M
 front-spec =

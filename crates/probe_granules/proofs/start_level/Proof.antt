@@ -48,7 +48,14 @@ returns-2 : tie.Need-returns-2
 returns-2 c =
     let k = c .before .before .before .before .before in
     let e = sym (k .before .before .before .from-sl0 .ensures) ∙ k .before .l .given .1 in
-    simp (c .before .before .before .before .number .ensures, c .before .before .before .sl0 .ensures, c .before .before .span .ensures, c .before .span2 .ensures, c .span3 .ensures) (sym (ap levelNumbers e))
+    simp (
+      c .before .before .before .before .number .ensures,
+      c .before .before .before .sl0 .ensures,
+      c .before .before .span .ensures,
+      c .before .span2 .ensures,
+      c .span3 .ensures,
+    )
+    (sym (ap levelNumbers e))
 
 pub start-level-spec : {M : Type 1} → statement M
 start-level-spec =

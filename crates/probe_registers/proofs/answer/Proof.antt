@@ -38,7 +38,9 @@ returns : tie.Need-returns
 unfolding registersAnswer
 returns c =
     let b = c .before .before .before in
-    c .decoded .ensures ∙ ap decodedNumbers (c .before .decode-vtcr-el2 .ensures) ∙ sym (ap (λ (n : ℕ). registersAnswer n (now (b .before .args .x))) (b .match .keys1))
+    c .decoded .ensures
+    ∙ ap decodedNumbers (c .before .decode-vtcr-el2 .ensures)
+    ∙ sym (ap (λ (n : ℕ). registersAnswer n (now (b .before .args .x))) (b .match .keys1))
 
 returns-2 : tie.Need-returns-2
 unfolding registersAnswer

@@ -93,25 +93,33 @@ returns-5 : tie.Need-returns-5
 unfolding wordsAnswer
 returns-5 c =
     let b = c .before .before .before in
-    c .leaf .ensures ∙ ap leafNumbers (c .before .decode-page .ensures) ∙ sym (ap (λ (n : ℕ). wordsAnswer n (now (b .before .args .x))) (b .match .keys5))
+    c .leaf .ensures
+    ∙ ap leafNumbers (c .before .decode-page .ensures)
+    ∙ sym (ap (λ (n : ℕ). wordsAnswer n (now (b .before .args .x))) (b .match .keys5))
 
 returns-6 : tie.Need-returns-6
 unfolding wordsAnswer
 returns-6 c =
     let b = c .before .before .before in
-    c .leaf2 .ensures ∙ ap leafNumbers (c .before .decode-block .ensures) ∙ sym (ap (λ (n : ℕ). wordsAnswer n (now (b .before .args .x))) (b .match .keys6))
+    c .leaf2 .ensures
+    ∙ ap leafNumbers (c .before .decode-block .ensures)
+    ∙ sym (ap (λ (n : ℕ). wordsAnswer n (now (b .before .args .x))) (b .match .keys6))
 
 returns-7 : tie.Need-returns-7
 unfolding wordsAnswer
 returns-7 c =
     let b = c .before .before .before in
-    c .table .ensures ∙ ap tableNumbers (c .before .decode-table .ensures) ∙ sym (ap (λ (n : ℕ). wordsAnswer n (now (b .before .args .x))) (b .match .keys7))
+    c .table .ensures
+    ∙ ap tableNumbers (c .before .decode-table .ensures)
+    ∙ sym (ap (λ (n : ℕ). wordsAnswer n (now (b .before .args .x))) (b .match .keys7))
 
 returns-8 : tie.Need-returns-8
 unfolding wordsAnswer
 returns-8 c =
     let b = c .before .before .before in
-    c .device .ensures ∙ ap deviceNumbers (c .before .decode-device-block .ensures) ∙ sym (ap (λ (n : ℕ). wordsAnswer n (now (b .before .args .x))) (b .match .keys8))
+    c .device .ensures
+    ∙ ap deviceNumbers (c .before .decode-device-block .ensures)
+    ∙ sym (ap (λ (n : ℕ). wordsAnswer n (now (b .before .args .x))) (b .match .keys8))
 
 returns-9 : tie.Need-returns-9
 unfolding wordsAnswer

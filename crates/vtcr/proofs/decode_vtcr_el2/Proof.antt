@@ -29,7 +29,8 @@ regime-named-requires c κs = rw (c .before .before .before .before .of .ensures
 returns-3 : tie.Need-returns-3
 returns-3 c =
     let f = c .before .before .before .before .before .of in
-    let e : c .regime-named .result ≡ decodedFields (f .result) = simp (eq-eqb _ _ (c .before .before .before .if1 .left), eq-eqb _ _ (c .before .if2 .left)) (c .regime-named .ensures) in
+    let e : c .regime-named .result ≡ decodedFields (f .result)
+    = simp (eq-eqb _ _ (c .before .before .before .if1 .left), eq-eqb _ _ (c .before .if2 .left)) (c .regime-named .ensures) in
     e ∙ ap decodedFields (f .ensures)
 
 pub decode-vtcr-el2-spec : {M : Type 1} → statement M

@@ -12,7 +12,9 @@ use Rattle.vtcr.specs.declared.DecodedVtcr.the-variants.{Regime}
 use Rattle.vtcr.proofs.regime_named.Statement.{statement}
 use Rattle.vtcr.proofs.regime_named.Tie as tie
 
-granule : (k : tie.After-known-told) → granuleNamed (k .before .before .before .before .args .fields .tg0) ≡ IsGranule (k .before .granule .given .0 .0)
+granule :
+    (k : tie.After-known-told) →
+    granuleNamed (k .before .before .before .before .args .fields .tg0) ≡ IsGranule (k .before .granule .given .0 .0)
 granule k = sym (k .before .before .before .from-tg0 .ensures) ∙ k .before .granule .given .1
 
 level :
@@ -90,7 +92,13 @@ returns-4 c =
     let s = v .before .before in
     let l = s .before .before .before .before in
     let k = l .before .before .before .before in
-    let r = regimeWith (k .before .before .before .before .args .fields) (k .before .granule .given .0 .0) (l .before .start-level .given .0 .0) (s .before .pa-size .given .0 .0) in
+    let r
+    = regimeWith
+    (k .before .before .before .before .args .fields)
+    (k .before .granule .given .0 .0)
+    (l .before .start-level .given .0 .0)
+    (s .before .pa-size .given .0 .0)
+    in
     rw (granule k, level l, size s, sym (v .valid .ensures) ∙ c .before .if1 .taken) (ap (Regime r) (c .from-vs .ensures))
 
 returns-5 : tie.Need-returns-5
