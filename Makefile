@@ -7,7 +7,7 @@ export HV_SRC ?= ../shared/docs/src
 
 JUDGE = cargo run --quiet --release --offline --manifest-path oracle/Cargo.toml -p judge --
 
-.PHONY: run test fmt compare compare-long record
+.PHONY: run test fmt compare compare-long record target/staticlib/libprobe.a
 
 run:
 	@mkdir -p target
@@ -21,11 +21,16 @@ test:
 
 fmt:
 	@rt fmt
-	@cargo fmt --manifest-path oracle/Cargo.toml
+	@cargo fmt --all --manifest-path oracle/Cargo.toml
 
 # The port beside the Rust. Without the originals, rt ci still replays their recorded answers.
 compare:
-	@if [ -d "$(HV_SRC)/hv-s2" ]; then $(MAKE) --no-print-directory target/staticlib/libprobe.a && $(JUDGE) compare && $(JUDGE) self-test && $(JUDGE) check-record crates/replay; else echo "no Rust originals in $(HV_SRC): the comparison was not run"; fi
+	@if [ -d "$(HV_SRC)/hv-s2" ]; then \
+	    $(MAKE) --no-print-directory target/staticlib/libprobe.a && \
+	    $(JUDGE) compare && $(JUDGE) self-test && $(JUDGE) check-record crates/replay; \
+	else \
+	    echo "no Rust originals in $(HV_SRC): the comparison was not run"; \
+	fi
 
 compare-long: target/staticlib/libprobe.a
 	@$(JUDGE) compare --long
@@ -34,7 +39,6 @@ compare-long: target/staticlib/libprobe.a
 record: target/staticlib/libprobe.a
 	@$(JUDGE) record crates/replay
 
-.PHONY: target/staticlib/libprobe.a
 target/staticlib/libprobe.a:
 	@mkdir -p target
 	@{ rt check probe && rt staticlib probe; } >target/staticlib.log 2>&1 || { cat target/staticlib.log; exit 1; }
