@@ -1,7 +1,7 @@
 -- What a valid regime's test says, as facts, and that its fields fit VTCR_EL2.
 use Prim.Native.Nat.{_≤_, _<_}
-use mathlib.Core.Bool.{Bool, true, false, _&&_, false≢true}
-use mathlib.Core.Path.{_≡_, refl}
+use mathlib.Core.Bool.{true, and-eq-true-iff}
+use mathlib.Core.Path.{_≡_}
 use native.Mathlib.Omega.{arith}
 use borrow.Author.Tests.{leb-true, ltb-true}
 use Rattle.granule.proofs.Bounds.{page-range, sl0-range, tg0-range}
@@ -20,23 +20,19 @@ pub record Valid (r : Stage2Regime) : Type 0 where
   pub inner : r .«walk_inner» ≤ 3
   pub outer : r .«walk_outer» ≤ 3
 
-both : (a b : Bool) → (a && b) ≡ true → (a ≡ true) × (b ≡ true)
-both true b e = (refl, e)
-both false b e = absurd (false≢true e)
-
 input-facts : (r : Stage2Regime) → inputFits r ≡ true → (r .«ipa_bits» ≤ 48) × (pageBits (r .granule) < r .«ipa_bits»)
 unfolding inputFits
 input-facts r e =
-    let l = both _ _ (both _ _ e .0) in
-    let p = both _ _ (l .0) in
+    let l = and-eq-true-iff _ _ .0 (and-eq-true-iff _ _ .0 e .0) in
+    let p = and-eq-true-iff _ _ .0 (l .0) in
     (leb-true _ _ (p .0), ltb-true _ _ (p .1))
 
 pub facts : (r : Stage2Regime) → validRegime r ≡ true → Valid r
 unfolding validRegime
 facts r e =
-    let o = both _ _ e in
-    let i = both _ _ (o .0) in
-    let h = both _ _ (i .0) in
+    let o = and-eq-true-iff _ _ .0 e in
+    let i = and-eq-true-iff _ _ .0 (o .0) in
+    let h = and-eq-true-iff _ _ .0 (i .0) in
     let p = input-facts r (h .0) in
     record {
       wide = p .0;

@@ -1,6 +1,5 @@
 -- The VTCR_EL2 value of a regime, and the regime that a value names.
 use Prim.Native.Nat.{ℕ, _-_}
-use mathlib.Core.Bool.{Bool, true, false}
 use lib.Dec.{eqb}
 use Rattle.fields.specs.Named.{pick}
 use Rattle.granule.specs.Granule.{tg0, granuleNamed}
@@ -44,10 +43,6 @@ fieldsFor r b =
 abbrev pub vtcrOf : Stage2Regime → VmidBits → Vtcr
 vtcrOf r b = pick (validRegime r) (Value (joined (fieldsFor r b))) Invalid
 
-abbrev pub ifValid : Bool → Stage2Regime → VmidBits → DecodedVtcr
-ifValid true r b = Regime r b
-ifValid false r b = Nothing
-
 -- the regime of these fields, by the granule, level and size that they name
 abbrev pub regimeWith : VtcrFields → Granule → StartLevel → PaSize → Stage2Regime
 regimeWith f g l s =
@@ -63,7 +58,8 @@ regimeWith f g l s =
 
 -- a reserved granule, level or size names no regime, nor do fields that name an invalid one
 abbrev pub regimeOf : VtcrFields → GranuleNamed → LevelNamed → SizeNamed → DecodedVtcr
-regimeOf f (IsGranule g) (Level l) (Size s) = ifValid (validRegime (regimeWith f g l s)) (regimeWith f g l s) (vmidBitsNamed (f .vs))
+regimeOf f (IsGranule g) (Level l) (Size s) =
+    pick (validRegime (regimeWith f g l s)) (Regime (regimeWith f g l s) (vmidBitsNamed (f .vs))) Nothing
 regimeOf f (IsGranule g) (Level l) NoSize = Nothing
 regimeOf f (IsGranule g) NoLevel s = Nothing
 regimeOf f NoGranule l s = Nothing
