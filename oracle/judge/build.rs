@@ -1,7 +1,9 @@
-//! Links the port's static library.
+//! Links the port's static libraries.
 
 use std::env;
 use std::path::PathBuf;
+
+const LIBRARIES: [&str; 2] = ["probe", "probe_layouts"];
 
 fn main() {
     println!("cargo::rerun-if-env-changed=PROBE_DIR");
@@ -10,12 +12,14 @@ fn main() {
     let folder = root
         .join("../..")
         .join(env::var_os("PROBE_DIR").unwrap_or("target/staticlib".into()));
-    let archive = folder.join("libprobe.a");
-    if !archive.exists() {
-        let archive = archive.display();
-        println!("cargo::error=no {archive}: PROBE_DIR names its folder");
-    }
-    println!("cargo::rerun-if-changed={}", archive.display());
     println!("cargo::rustc-link-search=native={}", folder.display());
-    println!("cargo::rustc-link-lib=static=probe");
+    for library in LIBRARIES {
+        let archive = folder.join(format!("lib{library}.a"));
+        if !archive.exists() {
+            let archive = archive.display();
+            println!("cargo::error=no {archive}: PROBE_DIR names its folder");
+        }
+        println!("cargo::rerun-if-changed={}", archive.display());
+        println!("cargo::rustc-link-lib=static={library}");
+    }
 }

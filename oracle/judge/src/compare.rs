@@ -2,46 +2,60 @@
 
 use std::fmt::{self, Display, Formatter};
 
-use crate::function::{functions, Fault, Function};
-use crate::inputs::Words;
-use crate::port;
+use crate::function::{faults, functions, Fault, Function, Input, Layer, LAYOUTS, SCENES, WORDS};
+use crate::inputs::{hex, Words};
 use crate::tally::Tally;
 
-/// Compares every function, with a fault on the port's side if one is given.
-pub fn compare_all(scale: usize, fault: Option<&Fault>) -> Result<(), String> {
-    if let Some(Fault { name, slip, .. }) = fault {
-        println!("with the fault {name}: {slip}");
-    }
-    let mut inputs = 0;
-    for function in functions() {
-        let tally = compare(function, scale, fault).map_err(|found| found.to_string())?;
-        println!("{tally}");
-        tally.complete()?;
-        inputs += tally.inputs;
-    }
+/// Compares every function, with a fault on the port's side if one is named.
+pub fn compare_all(scale: usize, fault: Option<&str>) -> Result<(), String> {
+    let inputs = compare_layers(&WORDS, scale, fault)?
+        + compare_layers(&LAYOUTS, scale, fault)?
+        + compare_layers(&SCENES, scale, fault)?;
     println!("{inputs} inputs compared, no difference");
     Ok(())
 }
 
-pub fn compare(
-    function: &'static Function,
+/// Compares the functions of these layers and counts their inputs.
+fn compare_layers<I: Input>(
+    layers: &'static [Layer<I>],
     scale: usize,
-    fault: Option<&Fault>,
+    fault: Option<&str>,
+) -> Result<u64, String> {
+    let fault = faults(layers).find(|seeded| Some(seeded.name) == fault);
+    if let Some(Fault { name, slip, .. }) = fault {
+        println!("with the fault {name}: {slip}");
+    }
+    let mut inputs = 0;
+    for function in functions(layers) {
+        let tally = compare(function, scale, fault).map_err(|found| found.to_string())?;
+        println!("{tally}");
+        tally.complete(I::LEAST)?;
+        inputs += tally.inputs;
+    }
+    Ok(inputs)
+}
+
+pub fn compare<I: Input>(
+    function: &Function<I>,
+    scale: usize,
+    fault: Option<&Fault<I>>,
 ) -> Result<Tally, Box<Difference>> {
     let fault = fault.filter(|fault| fault.op == function.op);
-    let mut tally = Tally::new(function);
+    let mut tally = Tally::new(function.name, function.answers);
     for input in function.inputs(scale) {
         let original = (function.original)(&input);
-        let mut port = port::answer(function.op, &input);
+        let unaltered = input.port(function.op);
+        let mut port = unaltered;
         if let Some(fault) = fault {
             (fault.alter)(&input, &mut port);
         }
         if original != port {
             return Err(Box::new(Difference {
                 function: function.name,
-                input,
+                input: input.shown(),
                 original,
                 port,
+                seeded: original == unaltered,
             }));
         }
         tally.count(&original);
@@ -51,20 +65,18 @@ pub fn compare(
 
 pub struct Difference {
     pub function: &'static str,
-    pub input: Words,
-    pub original: Words,
-    pub port: Words,
+    pub input: String,
+    original: Words,
+    port: Words,
+    /// Whether the port without the fault has no difference here.
+    pub seeded: bool,
 }
 
 impl Display for Difference {
     fn fmt(&self, f: &mut Formatter) -> fmt::Result {
         writeln!(f, "{} differs", self.function)?;
-        writeln!(f, "  input    {}", hex(&self.input))?;
+        writeln!(f, "  input    {}", self.input)?;
         writeln!(f, "  original {}", hex(&self.original))?;
         write!(f, "  port     {}", hex(&self.port))
     }
-}
-
-pub fn hex(words: &Words) -> String {
-    words.map(|word| format!("{word:#x}")).join(" ")
 }

@@ -1,22 +1,52 @@
 //! What the comparison knows of a function, and the layers that the functions come from.
 
-use crate::inputs::{few_codes, many_codes, one, Inputs, Words};
+use crate::guard::{self, Scene};
+use crate::inputs::{few_codes, hex, many_codes, one, Inputs, Words};
+use crate::layout::{self, Fields};
+use crate::port;
 use crate::{absent, desc, p2m, regime};
 
+/// What a function is asked.
+pub trait Input: 'static {
+    /// By which the port knows the function.
+    type Op: Copy + PartialEq + Sync;
+    /// How many inputs of a comparison must have each kind of answer.
+    const LEAST: u64;
+
+    /// The port's answer.
+    fn port(&self, op: Self::Op) -> Words;
+
+    /// The input as it is printed.
+    fn shown(&self) -> String;
+}
+
+impl Input for Words {
+    type Op = u32;
+    const LEAST: u64 = 1;
+
+    fn port(&self, op: u32) -> Words {
+        port::answer(op, self)
+    }
+
+    fn shown(&self) -> String {
+        hex(self)
+    }
+}
+
 /// A function that the original and the port both have.
-pub struct Function {
+pub struct Function<I: Input = Words> {
     pub name: &'static str,
     /// The number by which `probe` knows it.
-    pub op: u32,
-    /// The answer of the unchanged Rust, in the words that `probe` writes.
-    pub original: fn(&Words) -> Words,
+    pub op: I::Op,
+    /// The answer of the unchanged Rust, in the words that the port writes.
+    pub original: fn(&I) -> Words,
     /// Inputs around which the answer changes. They are few: all of them are recorded.
-    pub boundary: fn() -> Inputs,
+    pub boundary: fn() -> Inputs<I>,
     /// All other inputs, with the number of random ones multiplied as given.
-    pub sweep: fn(usize) -> Inputs,
+    pub sweep: fn(usize) -> Inputs<I>,
     /// The kinds of answer, each of which some input must bring about.
     pub answers: &'static [Answer],
-    /// Whether the answers are the original's alone and can be recorded.
+    /// Whether the answers are independent of the port's and can be recorded.
     pub recorded: bool,
 }
 
@@ -24,28 +54,47 @@ pub struct Function {
 pub type Answer = (&'static str, fn(&Words) -> bool);
 
 /// A slip on the port's side that the comparison must notice.
-pub struct Fault {
+pub struct Fault<I: Input = Words> {
     pub name: &'static str,
     /// What the slip is.
     pub slip: &'static str,
-    pub op: u32,
+    pub op: I::Op,
     /// Turns the port's answer to an input into that of a port with the slip.
-    pub alter: fn(&Words, &mut Words),
+    pub alter: fn(&I, &mut Words),
 }
 
-pub struct Layer {
-    pub functions: &'static [Function],
-    pub faults: &'static [Fault],
+pub struct Layer<I: Input = Words> {
+    pub functions: &'static [Function<I>],
+    pub faults: &'static [Fault<I>],
 }
 
-static LAYERS: [Layer; 4] = [p2m::LAYER, desc::LAYER, regime::LAYER, absent::LAYER];
+/// The functions of eight words.
+pub static WORDS: [Layer; 4] = [p2m::LAYER, desc::LAYER, regime::LAYER, absent::LAYER];
 
-pub fn functions() -> impl Iterator<Item = &'static Function> {
-    LAYERS.iter().flat_map(|layer| layer.functions)
+/// The functions of a layout.
+pub static LAYOUTS: [Layer<Fields>; 1] = [layout::LAYER];
+
+/// The functions of a layout with an arena and two maps.
+pub static SCENES: [Layer<Scene>; 1] = [guard::LAYER];
+
+pub fn functions<I: Input>(
+    layers: &'static [Layer<I>],
+) -> impl Iterator<Item = &'static Function<I>> {
+    layers.iter().flat_map(|layer| layer.functions)
 }
 
-pub fn faults() -> impl Iterator<Item = &'static Fault> {
-    LAYERS.iter().flat_map(|layer| layer.faults)
+pub fn faults<I: Input>(layers: &'static [Layer<I>]) -> impl Iterator<Item = &'static Fault<I>> {
+    layers.iter().flat_map(|layer| layer.faults)
+}
+
+/// The names of all faults, in the order of the self-test.
+pub fn fault_names() -> impl Iterator<Item = &'static str> {
+    let layouts = faults(&LAYOUTS).map(|fault| fault.name);
+    let scenes = faults(&SCENES).map(|fault| fault.name);
+    faults(&WORDS)
+        .map(|fault| fault.name)
+        .chain(layouts)
+        .chain(scenes)
 }
 
 impl Function {
@@ -66,8 +115,10 @@ impl Function {
             recorded: true,
         }
     }
+}
 
-    pub fn inputs(&self, scale: usize) -> impl Iterator<Item = Words> {
+impl<I: Input> Function<I> {
+    pub fn inputs(&self, scale: usize) -> impl Iterator<Item = I> {
         (self.boundary)().chain((self.sweep)(scale))
     }
 }

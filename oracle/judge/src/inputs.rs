@@ -6,7 +6,7 @@ pub type Words = [u64; 8];
 /// The answer of a function that has none for its input.
 pub const NOTHING: Words = [0; 8];
 
-pub type Inputs = Box<dyn Iterator<Item = Words>>;
+pub type Inputs<I = Words> = Box<dyn Iterator<Item = I>>;
 
 /// Fills up with zeros: a word that is not used is zero.
 pub fn words<const N: usize>(given: [u64; N]) -> Words {
@@ -18,10 +18,14 @@ pub fn one(word: u64) -> Words {
     words([word])
 }
 
-/// The words after a change.
-pub fn altered(mut words: Words, alter: impl FnOnce(&mut Words)) -> Words {
-    alter(&mut words);
-    words
+/// The input after a change.
+pub fn altered<I>(mut input: I, alter: impl FnOnce(&mut I)) -> I {
+    alter(&mut input);
+    input
+}
+
+pub fn hex<const N: usize>(words: &[u64; N]) -> String {
+    words.map(|word| format!("{word:#x}")).join(" ")
 }
 
 /// Splitmix64, from a fixed seed: every run asks the same.

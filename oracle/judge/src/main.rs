@@ -4,7 +4,13 @@ mod absent;
 mod compare;
 mod desc;
 mod function;
+mod guard;
+mod guard_faults;
+mod guard_inputs;
 mod inputs;
+mod layout;
+mod layout_faults;
+mod layout_inputs;
 mod p2m;
 mod port;
 mod record;
@@ -15,8 +21,6 @@ mod undefined;
 
 use std::env;
 use std::process::ExitCode;
-
-use function::Fault;
 
 const USAGE: &str =
     "usage: judge compare [--long] [--fault N] | self-test | record DIR | check-record DIR";
@@ -50,7 +54,8 @@ fn run(arguments: &[&str]) -> Result<(), String> {
 struct Options {
     /// By how much the number of random inputs is multiplied.
     scale: usize,
-    fault: Option<&'static Fault>,
+    /// The name of the fault on the port's side.
+    fault: Option<&'static str>,
 }
 
 impl Options {
@@ -77,7 +82,7 @@ impl Options {
 }
 
 /// The faults are numbered from 1, in the order of the self-test.
-fn fault(number: &str) -> Option<&'static Fault> {
+fn fault(number: &str) -> Option<&'static str> {
     let index = number.parse::<usize>().ok()?.checked_sub(1)?;
-    function::faults().nth(index)
+    function::fault_names().nth(index)
 }

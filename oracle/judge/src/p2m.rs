@@ -237,7 +237,7 @@ fn frame_boundary() -> impl Iterator<Item = Words> {
 
 fn frames(scale: usize) -> impl Iterator<Item = Words> {
     // Each row has its turn at each place of the list.
-    let turned = |x| (0..3).map(move |by| altered(x, |x| x[..6].rotate_right(2 * by)));
+    let turned = |x: Words| (0..3).map(move |by| altered(x, |x| x[..6].rotate_right(2 * by)));
     lists(owners(), kinds(), counts(), places())
         .flat_map(turned)
         .chain(random(Random(2), 200_000 * scale, random_list))

@@ -3,64 +3,86 @@
 use std::fs;
 use std::path::Path;
 
-use crate::function::{functions, Function};
+use crate::function::{functions, Function, Input, LAYOUTS, WORDS};
 use crate::inputs::{Random, Words};
+use crate::layout_inputs;
 use crate::tally::Tally;
 
 /// About how many inputs of each sweep are recorded, besides the whole boundary.
 const SAMPLE: u64 = 5;
 
-/// The lines that a run of the port reads, and those that it must write.
+/// The lines that a program of the port reads, and those that it must write.
 struct Record {
+    program: &'static str,
     stdin: String,
     stdout: String,
 }
 
 pub fn write(folder: &str) -> Result<(), String> {
-    let record = Record::new()?;
-    let folder = Path::new(folder);
-    fs::create_dir_all(folder)
-        .and_then(|()| fs::write(folder.join("stdin"), &record.stdin))
-        .and_then(|()| fs::write(folder.join("stdout"), &record.stdout))
-        .map_err(|error| format!("{}: {error}", folder.display()))?;
-    println!("{} answers recorded", record.len());
+    for record in records()? {
+        let folder = Path::new(folder).join(record.program);
+        fs::create_dir_all(&folder)
+            .and_then(|()| fs::write(folder.join("stdin"), &record.stdin))
+            .and_then(|()| fs::write(folder.join("stdout"), &record.stdout))
+            .map_err(|error| format!("{}: {error}", folder.display()))?;
+        println!("{}: {} answers recorded", record.program, record.len());
+    }
     Ok(())
 }
 
 pub fn check(folder: &str) -> Result<(), String> {
-    let record = Record::new()?;
-    for (name, expected) in [("stdin", &record.stdin), ("stdout", &record.stdout)] {
-        let file = Path::new(folder).join(name);
-        let found = fs::read(&file).map_err(|error| format!("{}: {error}", file.display()))?;
-        if found != expected.as_bytes() {
-            return Err(format!("{} is not what the original gives", file.display()));
+    for record in records()? {
+        let folder = Path::new(folder).join(record.program);
+        for (name, expected) in [("stdin", &record.stdin), ("stdout", &record.stdout)] {
+            let file = folder.join(name);
+            let found = fs::read(&file).map_err(|error| format!("{}: {error}", file.display()))?;
+            if found != expected.as_bytes() {
+                return Err(format!("{} is not what the original gives", file.display()));
+            }
         }
+        let (program, count) = (record.program, record.len());
+        println!("{program}: {count} recorded answers are the original's");
     }
-    println!("{} recorded answers are the original's", record.len());
     Ok(())
 }
 
+/// One record for each program that replays answers.
+fn records() -> Result<[Record; 2], String> {
+    let mut replay = Record::new("replay");
+    for function in functions(&WORDS).filter(|function| function.recorded) {
+        let line = |input: &Words| format!("{:02x} {}", function.op, digits(input));
+        replay.add(function, selection(function), line)?;
+    }
+    let mut layouts = Record::new("replay_layouts");
+    for function in functions(&LAYOUTS).filter(|function| function.recorded) {
+        layouts.add(function, layout_inputs::recorded(), digits)?;
+    }
+    Ok([replay, layouts])
+}
+
 impl Record {
-    fn new() -> Result<Self, String> {
-        let mut record = Record {
+    fn new(program: &'static str) -> Self {
+        Record {
+            program,
             stdin: String::new(),
             stdout: String::new(),
-        };
-        for function in functions().filter(|function| function.recorded) {
-            record.add(function)?;
         }
-        Ok(record)
     }
 
-    fn add(&mut self, function: &'static Function) -> Result<(), String> {
-        let mut tally = Tally::new(function);
-        for input in selection(function) {
+    fn add<I: Input>(
+        &mut self,
+        function: &Function<I>,
+        inputs: impl Iterator<Item = I>,
+        line: impl Fn(&I) -> String,
+    ) -> Result<(), String> {
+        let mut tally = Tally::new(function.name, function.answers);
+        for input in inputs {
             let answer = (function.original)(&input);
             tally.count(&answer);
-            self.stdin += &format!("{:02x} {}\n", function.op, digits(&input));
+            self.stdin += &format!("{}\n", line(&input));
             self.stdout += &format!("{}\n", digits(&answer));
         }
-        tally.complete()
+        tally.complete(1)
     }
 
     fn len(&self) -> usize {
@@ -76,6 +98,6 @@ fn selection(function: &Function) -> impl Iterator<Item = Words> {
 }
 
 /// Sixteen digits for each word, so that all lines are of one length.
-fn digits(words: &Words) -> String {
+fn digits<const N: usize>(words: &[u64; N]) -> String {
     words.map(|word| format!("{word:016x}")).join(" ")
 }

@@ -1,24 +1,31 @@
 //! Tests the comparison itself: one that misses a fault is no evidence.
 
-use crate::compare::{compare, hex, Difference};
-use crate::function::{faults, functions, Fault};
-use crate::port;
+use crate::compare::{compare, Difference};
+use crate::function::{
+    fault_names, faults, functions, Fault, Input, Layer, LAYOUTS, SCENES, WORDS,
+};
 
 pub fn self_test() -> Result<(), String> {
-    let missed = faults().filter(|fault| !reported(fault)).count();
+    let missed = missed(&WORDS) + missed(&LAYOUTS) + missed(&SCENES);
     if missed > 0 {
         return Err(format!("{missed} faults not caught"));
     }
-    println!("{} faults, all caught", faults().count());
+    println!("{} faults, all caught", fault_names().count());
     Ok(())
 }
 
-fn reported(fault: &Fault) -> bool {
+/// How many faults of these layers are not caught.
+fn missed<I: Input>(layers: &'static [Layer<I>]) -> usize {
+    faults(layers)
+        .filter(|fault| !reported(layers, fault))
+        .count()
+}
+
+fn reported<I: Input>(layers: &'static [Layer<I>], fault: &Fault<I>) -> bool {
     let name = fault.name;
-    match caught(fault) {
+    match caught(layers, fault) {
         Some(found) => {
-            let (function, input) = (found.function, hex(&found.input));
-            println!("fault {name}: caught at {function} {input}");
+            println!("fault {name}: caught at {} {}", found.function, found.input);
             true
         }
         None => {
@@ -29,9 +36,9 @@ fn reported(fault: &Fault) -> bool {
 }
 
 /// The difference that the fault makes. One that the port has without the fault does not count.
-fn caught(fault: &Fault) -> Option<Box<Difference>> {
-    functions()
+fn caught<I: Input>(layers: &'static [Layer<I>], fault: &Fault<I>) -> Option<Box<Difference>> {
+    functions(layers)
         .filter(|function| function.op == fault.op)
         .find_map(|function| compare(function, 1, Some(fault)).err())
-        .filter(|found| port::answer(fault.op, &found.input) == found.original)
+        .filter(|found| found.seeded)
 }

@@ -2,38 +2,42 @@
 
 use std::fmt::{self, Display, Formatter};
 
-use crate::function::Function;
+use crate::function::Answer;
 use crate::inputs::Words;
 
 pub struct Tally {
-    function: &'static Function,
+    function: &'static str,
+    answers: &'static [Answer],
     pub inputs: u64,
     /// One count for each kind of answer.
-    answers: Vec<u64>,
+    counts: Vec<u64>,
 }
 
 impl Tally {
-    pub fn new(function: &'static Function) -> Self {
+    pub fn new(function: &'static str, answers: &'static [Answer]) -> Self {
         Tally {
             function,
+            answers,
             inputs: 0,
-            answers: vec![0; function.answers.len()],
+            counts: vec![0; answers.len()],
         }
     }
 
     pub fn count(&mut self, answer: &Words) {
         self.inputs += 1;
-        for (count, (_, is)) in self.answers.iter_mut().zip(self.function.answers) {
+        for (count, (_, is)) in self.counts.iter_mut().zip(self.answers) {
             *count += u64::from(is(answer));
         }
     }
 
-    /// Fails for a kind of answer that no input has: it would go unchecked.
-    pub fn complete(&self) -> Result<(), String> {
-        for (count, (answer, _)) in self.answers.iter().zip(self.function.answers) {
-            if *count == 0 {
-                let name = self.function.name;
-                return Err(format!("{name}: no input has the answer {answer}"));
+    /// Fails for a kind of answer that too few inputs have: it would go unchecked.
+    pub fn complete(&self, least: u64) -> Result<(), String> {
+        for (count, (answer, _)) in self.counts.iter().zip(self.answers) {
+            if *count < least {
+                let name = self.function;
+                return Err(format!(
+                    "{name}: {count} inputs have the answer {answer}, not {least} or more"
+                ));
             }
         }
         Ok(())
@@ -42,8 +46,8 @@ impl Tally {
 
 impl Display for Tally {
     fn fmt(&self, f: &mut Formatter) -> fmt::Result {
-        write!(f, "{}: {} inputs", self.function.name, self.inputs)?;
-        for (count, (answer, _)) in self.answers.iter().zip(self.function.answers) {
+        write!(f, "{}: {} inputs", self.function, self.inputs)?;
+        for (count, (answer, _)) in self.counts.iter().zip(self.answers) {
             write!(f, ", {answer} {count}")?;
         }
         Ok(())

@@ -8,7 +8,7 @@ thread_local! {
 }
 
 /// The value, or nothing where the overflow checks stop the computation.
-pub fn defined(compute: impl FnOnce() -> u64 + UnwindSafe) -> Option<u64> {
+pub fn defined<T>(compute: impl FnOnce() -> T + UnwindSafe) -> Option<T> {
     EXPECTED.set(true);
     let value = panic::catch_unwind(compute).ok();
     EXPECTED.set(false);

@@ -1,0 +1,27 @@
+-- The sizes of the 4 KB granule, and what the arena holds.
+use Prim.Native.Nat.{ℕ, _*_, _^_}
+
+-- nine index bits a level
+abbrev pub entries : ℕ
+entries = 512
+
+abbrev pub page : ℕ
+page = 4096
+
+abbrev pub block : ℕ
+block = entries * page
+
+abbrev pub l1Span : ℕ
+l1Span = entries * block
+
+-- 39-bit input
+abbrev pub inputLimit : ℕ
+inputLimit = entries * l1Span
+
+-- output addresses have 48 bits
+abbrev pub outputLimit : ℕ
+outputLimit = 2 ^ 48
+
+-- six tables
+abbrev pub arenaLength : ℕ
+arenaLength = 6 * entries

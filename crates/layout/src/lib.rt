@@ -1,0 +1,163 @@
+// Where the tables stand and what they map (hv-s2's arm64.rs).
+ghost use mathlib.Core.Path.{_≡_};
+ghost use Rattle.layout.specs.Layout.{layoutOf, imageOf, tablesOf};
+ghost use Rattle.layout.specs.Window.{imageWindow, dataWindow, deviceWindow, slot};
+
+// The address of the guest image, to which it is mapped itself; absent where a guest's code lies in its own memory.
+pub enum GuestImage {
+    At(u64),
+    Absent,
+}
+
+// The sixteen fields, numbered from 1 in this order.
+pub struct Layout {
+    pub l1_pa: u64,
+    pub l2_code_pa: u64,
+    pub l2_data_pa: u64,
+    pub l3_data_pa: u64,
+    pub l2_sup_pa: u64,
+    pub l2_dev_pa: u64,
+    pub guest_image_pa: GuestImage,
+    pub data_ipa_base: u64,
+    pub data_pa_base: u64,
+    pub frame_size: u64,
+    pub sup_ipa_base: u64,
+    pub sup_pa_base: u64,
+    pub device_base: u64,
+    pub device_len: u64,
+    pub sup_wx_exempt: bool,
+    pub sup_frames: u64,
+}
+
+// A table's code, 1 to 6, and its address.
+pub struct Table {
+    pub code: u64,
+    pub pa: u64,
+}
+
+// A window's code, 1 to 4: `span` bytes from `ipa` on are mapped to those from `pa` on, if it is present.
+pub struct Window {
+    pub code: u64,
+    pub present: bool,
+    pub ipa: u64,
+    pub pa: u64,
+    pub span: u64,
+}
+
+impl Layout {
+    pub const PAGE_SIZE: u64 = 4096;
+    pub const BLOCK_SIZE: u64 = 512 * Self::PAGE_SIZE;
+    pub const L1_ENTRY_SIZE: u64 = 512 * Self::BLOCK_SIZE;
+    // The first address that the nine index bits of level 1 do not reach.
+    pub const ADDRESSABLE: u64 = 512 * Self::L1_ENTRY_SIZE;
+    // The first address that a descriptor cannot hold.
+    pub const OUTPUT_LIMIT: u64 = 0x1_0000_0000_0000;
+    // The first count of blocks whose length leaves 64 bits.
+    pub const UNCOUNTABLE: u64 = 0x800_0000_0000;
+    // Words, 512 for each table.
+    pub const ARENA_LEN: usize = 3072;
+
+    // The layout of board code's numbers: the fields in their order, and last whether there is an image.
+    pub fn of(x: &[u64; 17]) -> Self
+        ensures { λ r. ⌜ r ≡ layoutOf (now (x .entry)) ⌝ }
+    {
+        let guest_image_pa = GuestImage::of(x[16], x[6]);
+        Self {
+            l1_pa: x[0],
+            l2_code_pa: x[1],
+            l2_data_pa: x[2],
+            l3_data_pa: x[3],
+            l2_sup_pa: x[4],
+            l2_dev_pa: x[5],
+            guest_image_pa,
+            data_ipa_base: x[7],
+            data_pa_base: x[8],
+            frame_size: x[9],
+            sup_ipa_base: x[10],
+            sup_pa_base: x[11],
+            device_base: x[12],
+            device_len: x[13],
+            sup_wx_exempt: x[14] != 0,
+            sup_frames: x[15],
+        }
+    }
+
+    pub fn tables(self) -> [Table; 6]
+        ensures { λ r. ⌜ r ≡ tablesOf self ⌝ }
+    {
+        [
+            Table { code: 1, pa: self.l1_pa },
+            Table { code: 2, pa: self.l2_code_pa },
+            Table { code: 3, pa: self.l2_data_pa },
+            Table { code: 4, pa: self.l3_data_pa },
+            Table { code: 5, pa: self.l2_sup_pa },
+            Table { code: 6, pa: self.l2_dev_pa },
+        ]
+    }
+
+    pub fn data_window(self) -> Window
+        ensures { λ r. ⌜ r ≡ dataWindow self ⌝ }
+    {
+        Window {
+            code: 2,
+            present: true,
+            ipa: self.data_ipa_base,
+            pa: self.data_pa_base,
+            span: 512 * Self::PAGE_SIZE,
+        }
+    }
+
+    pub fn device_window(self) -> Window
+        ensures { λ r. ⌜ r ≡ deviceWindow self ⌝ }
+    {
+        Window {
+            code: 4,
+            present: 0 < self.device_len,
+            ipa: self.device_base,
+            pa: self.device_base,
+            span: self.device_len,
+        }
+    }
+}
+
+impl GuestImage {
+    // Of two numbers: presence is any number but zero.
+    pub fn of(present: u64, pa: u64) -> Self
+        ensures { λ r. ⌜ r ≡ imageOf present pa ⌝ }
+    {
+        if present == 0 {
+            return Self::Absent;
+        }
+        Self::At(pa)
+    }
+
+    pub fn window(self) -> Window
+        ensures { λ r. ⌜ r ≡ imageWindow self ⌝ }
+    {
+        match self {
+            GuestImage::At(pa) => Window {
+                code: 1,
+                present: true,
+                ipa: pa,
+                pa,
+                span: Layout::BLOCK_SIZE,
+            },
+            GuestImage::Absent => Window {
+                code: 1,
+                present: false,
+                ipa: 0,
+                pa: 0,
+                span: 0,
+            },
+        }
+    }
+}
+
+impl Window {
+    // The level 1 entry of the window's first address.
+    pub fn l1_index(self) -> u64
+        ensures { λ r. ⌜ r ≡ slot self ⌝ }
+    {
+        self.ipa / Layout::L1_ENTRY_SIZE % 512
+    }
+}

@@ -1,0 +1,44 @@
+-- The rows of a list from a position on: those of the element there, and those from the next position on.
+use Prim.Native.Nat.{ℕ, zero, suc, _+_, _≤_, _<_}
+use mathlib.Core.List.{List, [], _∷_, _++_, flatMap}
+use mathlib.Core.Path.{_≡_, refl}
+use native.Mathlib.Nat.{le-of-suc-le-suc, not-suc-le-zero}
+use native.Mathlib.Numerals.{add-one}
+use lib.ListN.{length, getD, drop}
+use lib.Seq.{drop-cons, drop-nil}
+use Rattle.refusal.specs.Table.{Row, accepted, first, each, pairs, numbered}
+
+module _ {A : Type 0} (xs : List A) (i : ℕ) (d : A) (inside : i < length xs) where
+  pub each-at : (f : A → List Row) → each f (drop i xs) ≡ f (getD xs i d) ++ each f (drop (i + 1) xs)
+  unfolding flatMap
+  each-at f = rw (add-one, drop-cons xs i d)
+
+  pub pairs-at :
+      (f : A → A → List Row) →
+      pairs f (drop i xs) ≡ each (f (getD xs i d)) (drop (i + 1) xs) ++ pairs f (drop (i + 1) xs)
+  unfolding pairs
+  pairs-at f = rw (add-one, drop-cons xs i d)
+
+  pub numbered-at :
+      (f : (ℕ × A) → List Row) →
+      each f (numbered i (drop i xs)) ≡ f (i, getD xs i d) ++ each f (numbered (i + 1) (drop (i + 1) xs))
+  unfolding flatMap numbered
+  numbered-at f = rw (add-one, drop-cons xs i d)
+
+past : {A : Type 0} (xs : List A) (i : ℕ) → length xs ≤ i → drop i xs ≡ []
+past [] i h = drop-nil i
+past (x ∷ xs) zero h = absurd (not-suc-le-zero h)
+past (x ∷ xs) (suc i) h = past xs i (le-of-suc-le-suc h)
+
+module _ {A : Type 0} (xs : List A) (i : ℕ) (outside : length xs ≤ i) where
+  pub each-end : (f : A → List Row) → accepted ≡ first (each f (drop i xs))
+  unfolding first flatMap
+  each-end f = rw (past xs i outside)
+
+  pub pairs-end : (f : A → A → List Row) → accepted ≡ first (pairs f (drop i xs))
+  unfolding first pairs
+  pairs-end f = rw (past xs i outside)
+
+  pub numbered-end : (f : (ℕ × A) → List Row) → accepted ≡ first (each f (numbered i (drop i xs)))
+  unfolding first flatMap numbered
+  numbered-end f = rw (past xs i outside)

@@ -1,0 +1,55 @@
+-- The number and the values of each case of `Refusal`, by document 01's table.
+use Prim.Native.Nat.{ℕ}
+use mathlib.Core.List.{List, [], _∷_}
+use Rattle.fields.specs.Numbers.{eight}
+use Rattle.refusal.specs.Table.{Row, Outcome, accepted, refused}
+use Rattle.refusal.specs.declared.Refusal.the-variants.{
+  ArenaLength,
+  MapLength,
+  MapCode,
+  DeviceWindowUnaligned,
+  GranuleNotEmitted,
+  WindowUnaligned,
+  TableUnnameable,
+  SuperFramesUncountable,
+  RegionCrossesL1,
+  OutputPastLimit,
+  RegionsCollide,
+  WindowsOverlap,
+  TablesEqual,
+  SuperUnbacked,
+}
+use Rattle.refusal.specs.declared.Refusal.{Refusal}
+use Rattle.refusal.specs.declared.Verdict.the-variants.{Accepted, Refused}
+use Rattle.refusal.specs.declared.Verdict.{Verdict}
+
+abbrev pub row : ℕ → List ℕ → Row
+row n vs = record { number = n; carried = vs }
+
+abbrev pub rowOf : Refusal → Row
+rowOf ArenaLength = row 1 []
+rowOf MapLength = row 2 []
+rowOf (MapCode map position) = row 3 (map ∷ position ∷ [])
+rowOf (DeviceWindowUnaligned base len) = row 4 (base ∷ len ∷ [])
+rowOf (GranuleNotEmitted size) = row 5 (size ∷ [])
+rowOf (WindowUnaligned window base align) = row 6 (window ∷ base ∷ align ∷ [])
+rowOf (TableUnnameable table pa) = row 7 (table ∷ pa ∷ [])
+rowOf (SuperFramesUncountable count) = row 8 (count ∷ [])
+rowOf (RegionCrossesL1 index span) = row 9 (index ∷ span ∷ [])
+rowOf (OutputPastLimit window base) = row 10 (window ∷ base ∷ [])
+rowOf (RegionsCollide index) = row 11 (index ∷ [])
+rowOf WindowsOverlap = row 12 []
+rowOf (TablesEqual first second) = row 13 (first ∷ second ∷ [])
+rowOf (SuperUnbacked position) = row 14 (position ∷ [])
+
+abbrev pub outcomeOf : Verdict → Outcome
+outcomeOf Accepted = accepted
+outcomeOf (Refused r) = refused (rowOf r)
+
+-- an outcome as eight numbers: the row's, 0 where accepted, then the values and zeros
+abbrev pub rowWords : Row → List ℕ
+rowWords r = eight (r .number ∷ r .carried)
+
+abbrev pub outcomeWords : Outcome → List ℕ
+outcomeWords accepted = eight []
+outcomeWords (refused r) = rowWords r

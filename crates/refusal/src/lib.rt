@@ -1,0 +1,62 @@
+// The answer of a call that document 01's table can refuse.
+ghost use mathlib.Core.Path.{_≡_};
+ghost use Rattle.refusal.specs.Outcome.{outcomeOf, outcomeWords, rowWords, rowOf};
+
+// Rows 1 to 14, by the Rust's names where it has them, with the values that a refusal carries.
+pub enum Refusal {
+    ArenaLength,
+    MapLength,
+    MapCode { map: u64, position: u64 },
+    DeviceWindowUnaligned { base: u64, len: u64 },
+    GranuleNotEmitted { frame_size: u64 },
+    WindowUnaligned { window: u64, base: u64, align: u64 },
+    TableUnnameable { table: u64, pa: u64 },
+    SuperFramesUncountable { count: u64 },
+    RegionCrossesL1 { l1_index: u64, span: u64 },
+    OutputPastLimit { window: u64, base: u64 },
+    RegionsCollide { l1_index: u64 },
+    WindowsOverlap,
+    TablesEqual { first: u64, second: u64 },
+    SuperUnbacked { position: u64 },
+}
+
+pub enum Verdict {
+    Accepted,
+    Refused(Refusal),
+}
+
+impl Verdict {
+    // The number, 0 where accepted, and the carried values: for callers that have no enums.
+    pub fn words(self) -> [u64; 8]
+        ensures { λ r. ⌜ r ≡ outcomeWords (outcomeOf self) ⌝ }
+    {
+        match self {
+            Verdict::Accepted => [0; 8],
+            Verdict::Refused(refusal) => refusal.words(),
+        }
+    }
+}
+
+impl Refusal {
+    // The number and the carried values.
+    pub fn words(self) -> [u64; 8]
+        ensures { λ r. ⌜ r ≡ rowWords (rowOf self) ⌝ }
+    {
+        match self {
+            Refusal::ArenaLength => [1, 0, 0, 0, 0, 0, 0, 0],
+            Refusal::MapLength => [2, 0, 0, 0, 0, 0, 0, 0],
+            Refusal::MapCode { map, position } => [3, map, position, 0, 0, 0, 0, 0],
+            Refusal::DeviceWindowUnaligned { base, len } => [4, base, len, 0, 0, 0, 0, 0],
+            Refusal::GranuleNotEmitted { frame_size } => [5, frame_size, 0, 0, 0, 0, 0, 0],
+            Refusal::WindowUnaligned { window, base, align } => [6, window, base, align, 0, 0, 0, 0],
+            Refusal::TableUnnameable { table, pa } => [7, table, pa, 0, 0, 0, 0, 0],
+            Refusal::SuperFramesUncountable { count } => [8, count, 0, 0, 0, 0, 0, 0],
+            Refusal::RegionCrossesL1 { l1_index, span } => [9, l1_index, span, 0, 0, 0, 0, 0],
+            Refusal::OutputPastLimit { window, base } => [10, window, base, 0, 0, 0, 0, 0],
+            Refusal::RegionsCollide { l1_index } => [11, l1_index, 0, 0, 0, 0, 0, 0],
+            Refusal::WindowsOverlap => [12, 0, 0, 0, 0, 0, 0, 0],
+            Refusal::TablesEqual { first, second } => [13, first, second, 0, 0, 0, 0, 0],
+            Refusal::SuperUnbacked { position } => [14, position, 0, 0, 0, 0, 0, 0],
+        }
+    }
+}

@@ -1,0 +1,144 @@
+-- `validate_at` meets its contract: an accepting row is passed over, a refusing one decides.
+use borrow.Author.Needs.{needs}
+use Rattle.validate.proofs.validate_at.Statement.{statement}
+use Rattle.validate.proofs.validate_at.Tie as tie
+use Rattle.validate.proofs.validate_at.Reads as reads
+use Rattle.validate.proofs.validate_at.Lts as lts
+use Rattle.layout.proofs.Layout.tables.Reads as tables-reads
+use Rattle.validate.proofs.all_aligned.Reads as all-aligned-reads
+use Rattle.validate.proofs.all_nameable.Reads as all-nameable-reads
+use Rattle.validate.proofs.checks.Reads as checks-reads
+use Rattle.validate.proofs.windows_of.Reads as windows-of-reads
+use Rattle.windows.proofs.windows.Reads as windows-reads
+use mathlib.Core.List.{List, [], _∷_, flatMap}
+use mathlib.Core.Path.{_≡_, _∙_, refl, sym, ap}
+use Prim.Native.Nat.{ℕ}
+use Rattle.refusal.proofs.First.{next, stop, last}
+use borrow.Author.Tests.{eq-eqb, ne-eqb, le-leb, lt-leb}
+use Rattle.refusal.specs.Table.{Row, first, each, table}
+use Rattle.layout.specs.Layout.{tablesOf}
+use Rattle.layout.specs.Window.{windowsOf}
+use Rattle.layout.specs.declared.Layout.{Layout}
+use Rattle.windows.specs.Rows.{windowRows}
+use Rattle.validate.specs.Rows.{checksOf, row4, row5, row6, row7, row8, refusalsAt}
+
+-- the rows that are left, and what is passed when a place is reached
+
+abbrev from6 : ℕ → Layout → List Row
+from6 limit l =
+    table (each row6 (checksOf l) ∷ each (row7 limit) (tablesOf l) ∷ row8 l ∷ windowRows limit (windowsOf l) ∷ [])
+
+abbrev from7 : ℕ → Layout → List Row
+from7 limit l = table (each (row7 limit) (tablesOf l) ∷ row8 l ∷ windowRows limit (windowsOf l) ∷ [])
+
+abbrev from8 : ℕ → Layout → List Row
+from8 limit l = table (row8 l ∷ windowRows limit (windowsOf l) ∷ [])
+
+past-5 : (c : tie.Else2) → first (refusalsAt (c .before .before .before .before .args .limit) (c .before .before .before .before .args .l)) ≡ first (from6 (c .before .before .before .before .args .limit) (c .before .before .before .before .args .l))
+unfolding refusalsAt row4 row5 flatMap
+past-5 c = simp (eq-eqb _ _ (c .before .before .if1 .left), eq-eqb _ _ (c .if2 .left))
+
+past-6 : (c : tie.After-enum-told) → first (refusalsAt (c .before .before .before .before .before .before .before .before .args .limit) (c .before .before .before .before .before .before .before .before .args .l)) ≡ first (from7 (c .before .before .before .before .before .before .before .before .args .limit) (c .before .before .before .before .before .before .before .before .args .l))
+unfolding flatMap
+past-6 c =
+    let v = c .before .before .all-aligned in
+    let checks = c .before .before .before in
+    past-5 (checks .before) ∙ next _ _ (v .result) refl (c .enum-told .given .1) (v .ensures ∙ ap (λ cs. first (each row6 cs)) (checks .checks .ensures))
+
+past-7 : (c : tie.After-enum-told3) → first (refusalsAt (c .before .before .before .before .before .before .before .before .before .before .before .before .args .limit) (c .before .before .before .before .before .before .before .before .before .before .before .before .args .l)) ≡ first (from8 (c .before .before .before .before .before .before .before .before .before .before .before .before .args .limit) (c .before .before .before .before .before .before .before .before .before .before .before .before .args .l))
+unfolding flatMap
+past-7 c =
+    let v = c .before .before .all-nameable in
+    let tables = c .before .before .before in
+    let limit = c .before .before .before .before .before .before .before .before .before .before .before .before .args .limit in
+    past-6 (tables .before) ∙ next _ _ (v .result) refl (c .enum-told3 .given .1) (v .ensures ∙ ap (λ ts. first (each (row7 limit) ts)) (tables .tables .ensures))
+
+past-8 : (c : tie.Else3) → first (refusalsAt (c .before .before .before .before .before .before .before .before .before .before .before .before .before .before .args .limit) (c .before .before .before .before .before .before .before .before .before .before .before .before .before .before .args .l)) ≡ first (table (windowRows (c .before .before .before .before .before .before .before .before .before .before .before .before .before .before .args .limit) (windowsOf (c .before .before .before .before .before .before .before .before .before .before .before .before .before .before .args .l)) ∷ []))
+unfolding row8 flatMap
+past-8 c = past-7 (c .before .before) ∙ simp (lt-leb _ _ (c .if3 .left))
+
+returns : tie.Need-returns
+unfolding refusalsAt row4 first flatMap
+returns c = simp (ne-eqb _ _ (c .if1 .taken))
+
+returns-2 : tie.Need-returns-2
+unfolding refusalsAt row4 row5 first flatMap
+returns-2 c = simp (eq-eqb _ _ (c .before .before .if1 .left), ne-eqb _ _ (c .if2 .taken))
+
+checks-requires : tie.Need-checks-requires
+checks-requires c κs = search needs
+
+all-aligned-requires : tie.Need-all-aligned-requires
+all-aligned-requires c κs = search needs
+
+enum-told : tie.Need-enum-told
+enum-told c = search needs
+
+enum-told-2 : tie.Need-enum-told-2
+enum-told-2 c = search needs
+
+returns-3 : tie.Need-returns-3
+unfolding flatMap
+returns-3 c = let v = c .before .before .all-aligned in
+    let refused = c .enum-told2 .given in
+    let checks = c .before .before .before in
+    stop _ _ (v .result) (refused .0 .0) refl (refused .1) (v .ensures ∙ ap (λ cs. first (each row6 cs)) (checks .checks .ensures)) ∙ sym (past-5 (checks .before))
+
+tables-requires : tie.Need-tables-requires
+tables-requires c κs = search needs
+
+all-nameable-requires : tie.Need-all-nameable-requires
+all-nameable-requires c κs = search needs
+
+enum-told-3 : tie.Need-enum-told-3
+enum-told-3 c = search needs
+
+enum-told-4 : tie.Need-enum-told-4
+enum-told-4 c = search needs
+
+returns-4 : tie.Need-returns-4
+unfolding flatMap
+returns-4 c = let v = c .before .before .all-nameable in
+    let refused = c .enum-told4 .given in
+    let tables = c .before .before .before in
+    let limit = tables .before .before .before .before .before .before .before .before .before .args .limit in
+    stop _ _ (v .result) (refused .0 .0) refl (refused .1) (v .ensures ∙ ap (λ ts. first (each (row7 limit) ts)) (tables .tables .ensures))
+    ∙ sym (past-6 (tables .before))
+
+returns-5 : tie.Need-returns-5
+unfolding row8 first flatMap
+returns-5 c = rw (past-7 (c .before .before), le-leb _ _ (c .if3 .taken))
+
+windows-of-requires : tie.Need-windows-of-requires
+windows-of-requires c κs = search needs
+
+windows-requires : tie.Need-windows-requires
+windows-requires c κs = search needs
+
+returns-6 : tie.Need-returns-6
+unfolding flatMap
+returns-6 c = let v = c .windows in
+    let of = c .before in
+    let limit = of .before .before .before .before .before .before .before .before .before .before .before .before .before .before .before .args .limit in
+    last _ (v .result) refl (v .ensures ∙ ap (λ ws. first (windowRows limit ws)) (of .windows-of .ensures)) ∙ sym (past-8 (of .before))
+
+pub validate-at-spec : {M : Type 1} → statement M
+validate-at-spec =
+    tie.close
+    (tie.spec
+    returns
+    returns-2
+    checks-requires
+    all-aligned-requires
+    enum-told
+    enum-told-2
+    returns-3
+    tables-requires
+    all-nameable-requires
+    enum-told-3
+    enum-told-4
+    returns-4
+    returns-5
+    windows-of-requires
+    windows-requires
+    returns-6)

@@ -1,0 +1,165 @@
+// Rows 4 to 12 of document 01's table, of a layout (hv-s2's arm64.rs, `validate`).
+use layout::Layout;
+use layout::Table;
+use layout::Window;
+use refusal::Refusal;
+use refusal::Verdict;
+ghost use Prim.Native.Nat.{_<_, _^_};
+ghost use mathlib.Core.Path.{_≡_};
+ghost use Rattle.layout.specs.Window.{windowsOf};
+ghost use Rattle.refusal.specs.Outcome.{outcomeOf};
+ghost use Rattle.refusal.specs.Table.{first, each};
+ghost use Rattle.validate.specs.Rows.{check, checksOf, row6, row7, refusalsAt, refusals};
+
+// One of row 6's checks: its code, whether it fails, the base that it tests and the alignment that it wants.
+pub struct Check {
+    pub code: u64,
+    pub fails: bool,
+    pub base: u64,
+    pub align: u64,
+}
+
+impl Check {
+    fn of(code: u64, applies: bool, base: u64, align: u64) -> Self
+        requires { ⌜ 0 < align ⌝ }
+        ensures { λ r. ⌜ r ≡ check code applies base align ⌝ }
+    {
+        Self {
+            code,
+            fails: applies && base % align != 0,
+            base,
+            align,
+        }
+    }
+}
+
+// What encoding assumes of a layout. A layout that breaks it would be mapped wrongly with no fault.
+pub fn validate(l: Layout) -> Verdict
+    ensures { λ r. ⌜ outcomeOf r ≡ first (refusals l) ⌝ }
+{
+    validate_at(Layout::OUTPUT_LIMIT, l)
+}
+
+// The same where tables and outputs lie below a limit of the caller's.
+pub fn validate_at(limit: u64, l: Layout) -> Verdict
+    ensures { λ r. ⌜ outcomeOf r ≡ first (refusalsAt limit l) ⌝ }
+{
+    if l.device_len % Layout::BLOCK_SIZE != 0 {
+        return Verdict::Refused(Refusal::DeviceWindowUnaligned {
+            base: l.device_base,
+            len: l.device_len,
+        });
+    }
+    if l.frame_size != Layout::PAGE_SIZE {
+        return Verdict::Refused(Refusal::GranuleNotEmitted {
+            frame_size: l.frame_size,
+        });
+    }
+    let aligned = all_aligned(checks(l));
+    let Verdict::Accepted = aligned else {
+        return aligned;
+    };
+    let nameable = all_nameable(limit, l.tables());
+    let Verdict::Accepted = nameable else {
+        return nameable;
+    };
+    if Layout::UNCOUNTABLE <= l.sup_frames {
+        return Verdict::Refused(Refusal::SuperFramesUncountable {
+            count: l.sup_frames,
+        });
+    }
+    windows::windows(limit, windows_of(l))
+}
+
+fn all_aligned(cs: [Check; 6]) -> Verdict
+    ensures { λ r. ⌜ outcomeOf r ≡ first (each row6 cs) ⌝ }
+{
+    for i in 0..6 {
+        let verdict = aligned(cs[i]);
+        let Verdict::Accepted = verdict else {
+            return verdict;
+        };
+    }
+    Verdict::Accepted
+}
+
+// Row 6. Unless it is aligned, a walk's index is not the one that a descriptor was written at.
+fn aligned(c: Check) -> Verdict
+    ensures { λ r. ⌜ outcomeOf r ≡ first (row6 c) ⌝ }
+{
+    if c.fails {
+        return Verdict::Refused(Refusal::WindowUnaligned {
+            window: c.code,
+            base: c.base,
+            align: c.align,
+        });
+    }
+    Verdict::Accepted
+}
+
+// Row 6's six checks, in their order.
+fn checks(l: Layout) -> [Check; 6]
+    ensures { λ r. ⌜ r ≡ checksOf l ⌝ }
+{
+    let image_pa = l.guest_image_pa;
+    let image = image_pa.window();
+    let device = l.device_window();
+    [
+        Check::of(1, true, l.data_ipa_base, Layout::BLOCK_SIZE),
+        Check::of(2, true, l.data_pa_base, Layout::PAGE_SIZE),
+        Check::of(3, true, l.sup_ipa_base, Layout::BLOCK_SIZE),
+        Check::of(4, true, l.sup_pa_base, Layout::BLOCK_SIZE),
+        Check::of(5, image.present, image.ipa, Layout::BLOCK_SIZE),
+        Check::of(6, device.present, device.ipa, Layout::BLOCK_SIZE),
+    ]
+}
+
+fn all_nameable(limit: u64, ts: [Table; 6]) -> Verdict
+    ensures { λ r. ⌜ outcomeOf r ≡ first (each (row7 limit) ts) ⌝ }
+{
+    for i in 0..6 {
+        let verdict = nameable(limit, ts[i]);
+        let Verdict::Accepted = verdict else {
+            return verdict;
+        };
+    }
+    Verdict::Accepted
+}
+
+// Row 7. A register or a descriptor would cut the address, and a walk would read another table.
+fn nameable(limit: u64, t: Table) -> Verdict
+    ensures { λ r. ⌜ outcomeOf r ≡ first (row7 limit t) ⌝ }
+{
+    let unnameable = Verdict::Refused(Refusal::TableUnnameable {
+        table: t.code,
+        pa: t.pa,
+    });
+    if limit <= t.pa {
+        return unnameable;
+    }
+    if t.pa % Layout::PAGE_SIZE != 0 {
+        return unnameable;
+    }
+    Verdict::Accepted
+}
+
+// The four windows, of a layout that row 8 lets by: elsewhere the super's length leaves 64 bits.
+fn windows_of(l: Layout) -> [Window; 4]
+    requires { ⌜ l .«sup_frames» < 2 ^ 43 ⌝ }
+    ensures { λ r. ⌜ r ≡ windowsOf l ⌝ }
+{
+    let image = l.guest_image_pa;
+    let span = l.sup_frames * Layout::BLOCK_SIZE;
+    [
+        image.window(),
+        l.data_window(),
+        Window {
+            code: 3,
+            present: true,
+            ipa: l.sup_ipa_base,
+            pa: l.sup_pa_base,
+            span,
+        },
+        l.device_window(),
+    ]
+}

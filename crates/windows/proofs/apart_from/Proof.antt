@@ -1,0 +1,81 @@
+-- `apart_from` meets its contract: the first row is that of the windows from i on.
+use Rattle.windows.proofs.apart_from.Statement.{statement}
+use Rattle.windows.proofs.apart_from.Tie as tie
+use Prim.Native.Nat.{_≤_, _<_, _-_}
+use mathlib.Core.Path.{_≡_, refl, sym, _∙_}
+use native.Mathlib.Omega.{arith}
+use lib.ListN.{length, drop}
+use borrow.Author.Needs.{needs}
+use Rattle.refusal.specs.Table.{first, each}
+use Rattle.refusal.proofs.First.{next, stop}
+use Rattle.refusal.proofs.Parts.{each-at, each-end}
+use Rattle.windows.specs.Rows.{pairRows}
+
+abbrev Inv-loop : tie.InvT-loop
+Inv-loop w from ws i₀ i = first (each (pairRows w) (drop from ws)) ≡ first (each (pairRows w) (drop i ws))
+
+abbrev μ-loop : tie.MeasureT-loop
+μ-loop w from ws i₀ i = 4 - i
+
+loop-holds : tie.Need-loop-holds Inv-loop μ-loop
+loop-holds c = refl
+
+mul-apart : tie.Need-mul-apart Inv-loop μ-loop
+mul-apart c = search needs
+
+array-copy-out-apart : tie.Need-array-copy-out-apart Inv-loop μ-loop
+array-copy-out-apart c = search needs
+
+apart-requires : tie.Need-apart-requires Inv-loop μ-loop
+apart-requires c κs = search needs
+
+enum-told : tie.Need-enum-told Inv-loop μ-loop
+enum-told c = search needs
+
+enum-told-2 : tie.Need-enum-told-2 Inv-loop μ-loop
+enum-told-2 c = search needs
+
+returns : tie.Need-returns Inv-loop μ-loop
+returns c = let h = c .before .before .before .before .before in
+    let a = h .before in
+    let v = c .before .before .apart in
+    let inside : h .loop .i < length (a .args .t2) = omega (arith, a .good .1 .0 .1 .0 .1) in
+    let refused = c .enum-told2 .given in
+    stop _ _ (v .result) (refused .0 .0) (each-at (a .args .t2) (h .loop .i) _ inside (pairRows (a .args .w))) (refused .1) (v .ensures) ∙ sym (h .loop .inv)
+
+add-i : tie.Need-add-i Inv-loop μ-loop
+add-i c = search needs
+
+loop-less : tie.Need-loop-less Inv-loop μ-loop
+loop-less c = search needs
+
+loop-again : tie.Need-loop-again Inv-loop μ-loop
+loop-again c = let h = c .before .before .before .before .before in
+    let a = h .before in
+    let v = c .before .before .apart in
+    let inside : h .loop .i < length (a .args .t2) = omega (arith, a .good .1 .0 .1 .0 .1) in
+    h .loop .inv ∙ next _ _ (v .result) (each-at (a .args .t2) (h .loop .i) _ inside (pairRows (a .args .w))) (c .enum-told .given .1) (v .ensures)
+
+returns-2 : tie.Need-returns-2 Inv-loop μ-loop
+returns-2 c = let h = c .before in
+    let a = h .before in
+    let outside : length (a .args .t2) ≤ h .loop .i = omega (arith, a .good .1 .0 .1 .0 .1) in
+    each-end (a .args .t2) (h .loop .i) outside (pairRows (a .args .w)) ∙ sym (h .loop .inv)
+
+pub apart-from-spec : {M : Type 1} → statement M
+apart-from-spec =
+    tie.close
+    (tie.spec
+    Inv-loop
+    μ-loop
+    loop-holds
+    mul-apart
+    array-copy-out-apart
+    apart-requires
+    enum-told
+    enum-told-2
+    returns
+    add-i
+    loop-less
+    loop-again
+    returns-2)

@@ -1,0 +1,172 @@
+//! Scenes that the guard refuses by one or more of its rows, and accepted ones.
+
+use crate::guard::{Scene, ARENA_LEN, MAP_LEN};
+use crate::inputs::{altered, random, Random};
+use crate::layout::{
+    DATA_PA, DEVICE_LEN, FRAME_SIZE, OUTPUT_LIMIT, SUP_FRAMES, SUP_FRAMES_LIMIT, SUP_IPA, SUP_PA,
+    TABLES,
+};
+use crate::layout_inputs::{accepted, moved, SCENE};
+
+/// Changes of scene S around each row.
+const CHANGES: &[fn(&mut Scene)] = &[
+    |_| (),
+    |scene| scene.arena_len = 0,
+    |scene| scene.arena_len = ARENA_LEN - 1,
+    |scene| scene.arena_len = ARENA_LEN + 1,
+    |scene| scene.base.clear(),
+    |scene| scene.sup.clear(),
+    |scene| scene.base.resize(MAP_LEN - 1, 0),
+    |scene| scene.sup.resize(MAP_LEN - 1, 0),
+    |scene| scene.base.resize(MAP_LEN + 1, 0),
+    |scene| scene.sup.resize(MAP_LEN + 1, 0),
+    |scene| set(&mut scene.base, 0, 4),
+    |scene| set(&mut scene.sup, 0, 4),
+    |scene| set(&mut scene.base, MAP_LEN - 1, u8::MAX),
+    |scene| set(&mut scene.sup, MAP_LEN - 1, u8::MAX),
+    |scene| set(&mut scene.base, MAP_LEN, 4),
+    |scene| scene.fields[DEVICE_LEN] = 4_096,
+    |scene| scene.fields[FRAME_SIZE] = 16_384,
+    |scene| scene.fields[SUP_PA] = 0x6000_1000,
+    |scene| scene.fields[0] = OUTPUT_LIMIT,
+    |scene| scene.fields[SUP_FRAMES] = SUP_FRAMES_LIMIT,
+    |scene| scene.fields[SUP_FRAMES] = 513,
+    |scene| scene.fields[DATA_PA] = OUTPUT_LIMIT - 4_096,
+    |scene| scene.fields[SUP_IPA] = 0x8020_0000,
+    |scene| scene.fields[SUP_PA] = 0x5000_0000,
+    |scene| scene.fields[5] = scene.fields[0],
+    |scene| scene.fields[2] = scene.fields[1],
+    |scene| scene.fields[4] = scene.fields[1],
+    |scene| scene.fields[SUP_FRAMES] = 0,
+    |scene| scene.fields[SUP_FRAMES] = 2,
+    |scene| scene.fields[SUP_FRAMES] = 512,
+    |scene| set(&mut scene.sup, 3, 1),
+    |scene| set(&mut scene.sup, 4, 1),
+    |scene| set(&mut scene.sup, MAP_LEN - 1, 2),
+];
+
+/// Scene S with any three of the changes: which row comes first shows, and that the rest is read.
+pub fn changed_scenes() -> impl Iterator<Item = Scene> {
+    let pairs = CHANGES
+        .iter()
+        .flat_map(|a| CHANGES.iter().map(move |b| (a, b)));
+    let triples = pairs.flat_map(|(a, b)| CHANGES.iter().map(move |c| [a, b, c]));
+    triples.map(|changes| {
+        altered(scene(), |scene| {
+            for change in changes {
+                change(scene);
+            }
+        })
+    })
+}
+
+/// Scene S of document 01.
+fn scene() -> Scene {
+    let map = |place: usize, byte| altered(vec![0; MAP_LEN], |map| map[place] = byte);
+    Scene {
+        arena_len: ARENA_LEN,
+        base: map(1, 2),
+        sup: map(2, 3),
+        fields: SCENE,
+    }
+}
+
+/// Sets an entry if the map has it.
+fn set(map: &mut [u8], place: usize, byte: u8) {
+    if let Some(entry) = map.get_mut(place) {
+        *entry = byte;
+    }
+}
+
+pub fn scenes(scale: usize) -> impl Iterator<Item = Scene> {
+    random(Random(17), 100_000 * scale, random_scene)
+}
+
+fn random_scene(random: &mut Random) -> Scene {
+    let fields = match random.below(3) {
+        0 => moved(random),
+        _ => accepted(random),
+    };
+    let mut scene = Scene {
+        arena_len: arena_len(random),
+        base: map(random),
+        sup: map(random),
+        fields,
+    };
+    if random.below(4) == 0 {
+        equate_tables(random, &mut scene);
+    }
+    place_supers(random, &mut scene);
+    spoil(random, &mut scene.base);
+    spoil(random, &mut scene.sup);
+    scene
+}
+
+fn arena_len(random: &mut Random) -> usize {
+    match random.below(32) {
+        0 => random.below(8_192) as usize,
+        1 => random.pick(&[0, 1, 3_071, 3_073]) as usize,
+        _ => ARENA_LEN,
+    }
+}
+
+/// A map of any length, in which some entries or most are mapped.
+fn map(random: &mut Random) -> Vec<u8> {
+    let len = match random.below(16) {
+        0 => random.pick(&[513, 514]),
+        1..=6 => random.pick(&[0, 1, 511, 512]),
+        _ => random.below(513),
+    };
+    let dense = random.below(2) == 0;
+    let mut entries = || match dense {
+        true => random.word(),
+        false => random.sparse(),
+    };
+    let eight = || (entries() & 0x0303_0303_0303_0303).to_le_bytes();
+    let mut map: Vec<u8> = std::iter::repeat_with(eight)
+        .take(len.div_ceil(8) as usize)
+        .flatten()
+        .collect();
+    map.truncate(len as usize);
+    map
+}
+
+/// Gives two tables, or three, one address.
+fn equate_tables(random: &mut Random, scene: &mut Scene) {
+    let any = |random: &mut Random| random.below(TABLES.end as u64) as usize;
+    let from = any(random);
+    for _ in 0..=random.below(2) {
+        scene.fields[any(random)] = scene.fields[from];
+    }
+}
+
+/// Mostly clears what is mapped past the frames, but for an entry next to the last frame or
+/// anywhere.
+fn place_supers(random: &mut Random, scene: &mut Scene) {
+    let frames = scene.fields[SUP_FRAMES].min(MAP_LEN as u64) as usize;
+    if random.below(8) > 0 {
+        scene
+            .sup
+            .iter_mut()
+            .skip(frames)
+            .for_each(|entry| *entry = 0);
+    }
+    let byte = 1 + random.below(3) as u8;
+    match random.below(8) {
+        0 => set(&mut scene.sup, frames, byte),
+        1 => set(&mut scene.sup, frames + 1, byte),
+        2 => set(&mut scene.sup, frames.saturating_sub(1), byte),
+        3 => set(&mut scene.sup, random.below(MAP_LEN as u64) as usize, byte),
+        _ => (),
+    }
+}
+
+/// Now and then, plants bytes that are no permissions.
+fn spoil(random: &mut Random, map: &mut [u8]) {
+    if random.below(16) == 0 && !map.is_empty() {
+        for _ in 0..=random.below(2) {
+            let place = random.below(map.len() as u64) as usize;
+            map[place] = random.pick(&[4, 5, 128, 255]) as u8;
+        }
+    }
+}
