@@ -54,8 +54,10 @@ impl Layout {
     pub const OUTPUT_LIMIT: u64 = 0x1_0000_0000_0000;
     // The first count of blocks whose length leaves 64 bits.
     pub const UNCOUNTABLE: u64 = 0x800_0000_0000;
-    // Words, 512 for each table.
-    pub const ARENA_LEN: usize = 3072;
+    // Words of a table, and the most that a map can name.
+    pub const ENTRIES: usize = 512;
+    // Words of six tables.
+    pub const ARENA_LEN: usize = 6 * Self::ENTRIES;
 
     // The layout of board code's numbers: the fields in their order, and last whether there is an image.
     pub fn of(x: &[u64; 17]) -> Self

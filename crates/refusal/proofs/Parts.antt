@@ -6,7 +6,7 @@ use native.Mathlib.Nat.{le-of-suc-le-suc, not-suc-le-zero}
 use native.Mathlib.Numerals.{add-one}
 use lib.ListN.{length, getD, drop}
 use lib.Seq.{drop-cons, drop-nil}
-use Rattle.refusal.specs.Table.{Row, accepted, first, each, pairs, numbered}
+use Rattle.refusal.specs.Table.{Row, accepted, first, each, eachFrom, pairs}
 
 module _ {A : Type 0} (xs : List A) (i : ℕ) (d : A) (inside : i < length xs) where
   pub each-at : (f : A → List Row) → each f (drop i xs) ≡ f (getD xs i d) ++ each f (drop (i + 1) xs)
@@ -19,11 +19,11 @@ module _ {A : Type 0} (xs : List A) (i : ℕ) (d : A) (inside : i < length xs) w
   unfolding pairs
   pairs-at f = rw (add-one, drop-cons xs i d)
 
-  pub numbered-at :
-      (f : (ℕ × A) → List Row) →
-      each f (numbered i (drop i xs)) ≡ f (i, getD xs i d) ++ each f (numbered (i + 1) (drop (i + 1) xs))
-  unfolding flatMap numbered
-  numbered-at f = rw (add-one, drop-cons xs i d)
+  pub from-at :
+      (f : ℕ → A → List Row) →
+      eachFrom f i (drop i xs) ≡ f i (getD xs i d) ++ eachFrom f (i + 1) (drop (i + 1) xs)
+  unfolding eachFrom
+  from-at f = rw (add-one, drop-cons xs i d)
 
 past : {A : Type 0} (xs : List A) (i : ℕ) → length xs ≤ i → drop i xs ≡ []
 past [] i h = drop-nil i
@@ -39,6 +39,6 @@ module _ {A : Type 0} (xs : List A) (i : ℕ) (outside : length xs ≤ i) where
   unfolding first pairs
   pairs-end f = rw (past xs i outside)
 
-  pub numbered-end : (f : (ℕ × A) → List Row) → accepted ≡ first (each f (numbered i (drop i xs)))
-  unfolding first flatMap numbered
-  numbered-end f = rw (past xs i outside)
+  pub from-end : (f : ℕ → A → List Row) → accepted ≡ first (eachFrom f i (drop i xs))
+  unfolding first eachFrom
+  from-end f = rw (past xs i outside)

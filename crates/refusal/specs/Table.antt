@@ -38,7 +38,7 @@ pairs f (x ∷ xs) = each (f x) xs ++ pairs f xs
 abbrev pub table : List (List Row) → List Row
 table rows = each (λ rs. rs) rows
 
--- the elements with their positions, from k on
-unfoldable pub numbered : {A : Type 0} → ℕ → List A → List (ℕ × A)
-numbered k [] = []
-numbered k (x ∷ xs) = (k, x) ∷ numbered (suc k) xs
+-- a row for each element by its position, from k on
+unfoldable pub eachFrom : {A : Type 0} → (ℕ → A → List Row) → ℕ → List A → List Row
+eachFrom f k [] = []
+eachFrom f k (x ∷ xs) = f k x ++ eachFrom f (suc k) xs

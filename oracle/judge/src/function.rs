@@ -8,7 +8,7 @@ use crate::{absent, desc, p2m, regime};
 
 /// What a function is asked.
 pub trait Input: 'static {
-    /// By which the port knows the function.
+    /// What tells the function from others of the same input.
     type Op: Copy + PartialEq + Sync;
     /// How many inputs of a comparison must have each kind of answer.
     const LEAST: u64;
@@ -36,9 +36,10 @@ impl Input for Words {
 /// A function that the original and the port both have.
 pub struct Function<I: Input = Words> {
     pub name: &'static str,
-    /// The number by which `probe` knows it.
+    /// For `probe`, its number.
     pub op: I::Op,
-    /// The answer of the unchanged Rust, in the words that the port writes.
+    /// The answer that is due, the unchanged Rust's where it has one, in the words that the port
+    /// writes.
     pub original: fn(&I) -> Words,
     /// Inputs around which the answer changes. They are few: all of them are recorded.
     pub boundary: fn() -> Inputs<I>,
@@ -46,7 +47,7 @@ pub struct Function<I: Input = Words> {
     pub sweep: fn(usize) -> Inputs<I>,
     /// The kinds of answer, each of which some input must bring about.
     pub answers: &'static [Answer],
-    /// Whether the answers are independent of the port's and can be recorded.
+    /// Whether the answers are recorded.
     pub recorded: bool,
 }
 

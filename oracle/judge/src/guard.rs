@@ -9,7 +9,7 @@ use crate::function::{Answer, Function, Input, Layer};
 use crate::guard_faults::FAULTS;
 use crate::guard_inputs::{changed_scenes, scenes};
 use crate::inputs::{hex, words, Words};
-use crate::layout::{self, row, Fields, ACCEPTED, LEAST, SUP_FRAMES, TABLES};
+use crate::layout::{self, pairs, row, Fields, ACCEPTED, LEAST, SUP_FRAMES, TABLES};
 use crate::port;
 
 /// A layout with what is lent beside it.
@@ -98,39 +98,15 @@ fn row_3(scene: &Scene) -> Option<Words> {
 }
 
 pub fn row_13(x: &Fields) -> Option<Words> {
-    let pairs = TABLES.flat_map(|first| (first + 1..TABLES.end).map(move |second| (first, second)));
-    pairs
-        .filter(|(first, second)| x[*first] == x[*second])
-        .map(|(first, second)| words([13, first as u64 + 1, second as u64 + 1]))
-        .next()
+    pairs(TABLES.end)
+        .find(|(first, second)| x[*first] == x[*second])
+        .map(|(first, second)| words([13, 1 + first as u64, 1 + second as u64]))
 }
 
 pub fn row_14(scene: &Scene) -> Option<Words> {
     let mapped = |place: usize| scene.sup[place] != 0 && place as u64 >= scene.fields[SUP_FRAMES];
     let place = (0..scene.sup.len()).find(|place| mapped(*place))?;
     Some(words([14, place as u64]))
-}
-
-/// What a call is lent, to see afterwards that nothing was stored there.
-#[derive(PartialEq)]
-pub struct Lent {
-    pub arena: Vec<u64>,
-    pub base: Vec<u8>,
-    pub sup: Vec<u8>,
-    pub fields: Fields,
-}
-
-impl Lent {
-    pub fn new(scene: &Scene) -> Self {
-        // A byte that row 3 refuses stands past each map, so that reading on shows.
-        let fenced = |map: &[u8]| [map, &[u8::MAX]].concat();
-        Lent {
-            arena: vec![port::UNWRITTEN; scene.arena_len],
-            base: fenced(&scene.base),
-            sup: fenced(&scene.sup),
-            fields: scene.fields,
-        }
-    }
 }
 
 impl Display for Scene {

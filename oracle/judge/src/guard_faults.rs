@@ -3,7 +3,7 @@
 use crate::function::Fault;
 use crate::guard::{row_13, row_14, row_2, Scene, ARENA_LEN, MAP_LEN};
 use crate::inputs::{altered, words, Words};
-use crate::layout::{ACCEPTED, IMAGE_PRESENT, L2_CODE, SUP_FRAMES, TABLES};
+use crate::layout::{pairs, ACCEPTED, IMAGE_PRESENT, L2_CODE, SUP_FRAMES, TABLES};
 use crate::port;
 
 pub const FAULTS: &[Fault<Scene>] = &[
@@ -20,9 +20,7 @@ pub const FAULTS: &[Fault<Scene>] = &[
         "row-1-after-row-2",
         "the maps' lengths are tested before the arena's",
         |scene, answer| {
-            if let Some(row_2) = row_2(scene) {
-                *answer = row_2;
-            }
+            *answer = row_2(scene).unwrap_or(*answer);
         },
     ),
     fault(
@@ -102,10 +100,11 @@ pub const FAULTS: &[Fault<Scene>] = &[
         "the pair with the lowest second table is reported",
         |scene, answer| {
             let x = &scene.fields;
-            let equal = |second: &usize| x[..*second].contains(&x[*second]);
-            if let Some(second) = TABLES.clone().find(equal).filter(|_| answer[0] == 13) {
-                let first = TABLES.clone().find(|first| x[*first] == x[second]);
-                *answer = words([13, 1 + first.unwrap_or(0) as u64, 1 + second as u64]);
+            let equal = pairs(TABLES.end).filter(|(first, second)| x[*first] == x[*second]);
+            if let Some((first, second)) = equal.min_by_key(|(_, second)| *second) {
+                if answer[0] == 13 {
+                    *answer = words([13, 1 + first as u64, 1 + second as u64]);
+                }
             }
         },
     ),
@@ -125,9 +124,8 @@ pub const FAULTS: &[Fault<Scene>] = &[
         "row-13-before-row-4",
         "the tables are compared before the layout is validated",
         |scene, answer| {
-            let row_13 = row_13(&scene.fields).filter(|_| (4..=12).contains(&answer[0]));
-            if let Some(row_13) = row_13 {
-                *answer = row_13;
+            if (4..=12).contains(&answer[0]) {
+                *answer = row_13(&scene.fields).unwrap_or(*answer);
             }
         },
     ),
@@ -155,8 +153,8 @@ pub const FAULTS: &[Fault<Scene>] = &[
         "row-14-before-row-13",
         "the supers are tested before the tables",
         |scene, answer| {
-            if let Some(row_14) = row_14(scene).filter(|_| answer[0] == 13) {
-                *answer = row_14;
+            if answer[0] == 13 {
+                *answer = row_14(scene).unwrap_or(*answer);
             }
         },
     ),

@@ -215,3 +215,8 @@ pub fn all_windows(x: &Fields) -> [Window; 4] {
 pub fn windows(x: &Fields) -> impl Iterator<Item = Window> {
     all_windows(x).into_iter().filter(|window| window.present)
 }
+
+/// All pairs of different places below the count: the lowest first, then the lowest second.
+pub fn pairs(count: usize) -> impl Iterator<Item = (usize, usize)> {
+    (0..count).flat_map(move |first| (first + 1..count).map(move |second| (first, second)))
+}

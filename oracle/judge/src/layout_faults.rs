@@ -3,9 +3,9 @@
 use crate::function::Fault;
 use crate::inputs::{altered, words, Words};
 use crate::layout::{
-    row_10, windows, Fields, Window, ACCEPTED, BLOCK, DATA_PA, DEVICE, DEVICE_LEN, FRAME_SIZE,
-    IMAGE, IMAGE_PRESENT, INPUT_LIMIT, L1_SPAN, L2_CODE, OUTPUT_LIMIT, PAGE, SUP_FRAMES,
-    SUP_FRAMES_LIMIT, SUP_IPA, TABLES,
+    all_windows, pairs, row_10, windows, Fields, Window, ACCEPTED, BLOCK, DATA_PA, DEVICE,
+    DEVICE_LEN, FRAME_SIZE, IMAGE, IMAGE_PRESENT, INPUT_LIMIT, L1_SPAN, L2_CODE, OUTPUT_LIMIT,
+    PAGE, SUP_FRAMES, SUP_FRAMES_LIMIT, SUP_IPA, TABLES,
 };
 use crate::port;
 
@@ -112,7 +112,7 @@ pub const FAULTS: &[Fault<Fields>] = &[
     ),
     fault(
         "row-8-one-early",
-        "the last number of frames whose span has 64 bits is refused by it",
+        "2^43 - 1 frames are refused by it",
         |x, answer| {
             if before(answer, 8) && x[SUP_FRAMES] == SUP_FRAMES_LIMIT - 1 {
                 *answer = words([8, x[SUP_FRAMES]]);
@@ -184,8 +184,8 @@ pub const FAULTS: &[Fault<Fields>] = &[
         "row-10-before-row-9",
         "the outputs are tested before the inputs",
         |x, answer| {
-            if let Some(row_10) = row_10(x).filter(|_| answer[0] == 9) {
-                *answer = row_10;
+            if answer[0] == 9 {
+                *answer = row_10(x).unwrap_or(*answer);
             }
         },
     ),
@@ -193,12 +193,9 @@ pub const FAULTS: &[Fault<Fields>] = &[
         "row-10-super-first",
         "the output of the super window is tested before that of data",
         |x, answer| {
-            let ends_above = |window: &Window| window.output_end() > OUTPUT_LIMIT.into();
-            let sup = windows(x)
-                .find(|window| window.code == 3)
-                .filter(ends_above);
-            if let Some(sup) = sup.filter(|_| answer[0] == 10) {
-                *answer = words([10, 3, sup.pa]);
+            let [_, _, sup, _] = all_windows(x);
+            if answer[0] == 10 && sup.output_end() > OUTPUT_LIMIT.into() {
+                *answer = words([10, sup.code, sup.pa]);
             }
         },
     ),
@@ -215,8 +212,8 @@ pub const FAULTS: &[Fault<Fields>] = &[
         "row-11-before-row-10",
         "the slots are tested before the outputs",
         |x, answer| {
-            if let Some((a, _)) = collision(x).filter(|_| answer[0] == 10) {
-                *answer = words([11, a.l1_index()]);
+            if answer[0] == 10 {
+                *answer = row_11(x).unwrap_or(*answer);
             }
         },
     ),
@@ -224,17 +221,17 @@ pub const FAULTS: &[Fault<Fields>] = &[
         "row-11-all-pairs-first",
         "the slots of all pairs are tested before the outputs of any",
         |x, answer| {
-            if let Some((a, _)) = collision(x).filter(|_| answer[0] == 12) {
-                *answer = words([11, a.l1_index()]);
+            if answer[0] == 12 {
+                *answer = row_11(x).unwrap_or(*answer);
             }
         },
     ),
     fault(
-        "row-11-index-of-blocks",
-        "the number of the 2 MiB block is carried",
-        |x, answer| {
-            if let Some((a, _)) = collision(x).filter(|_| answer[0] == 11) {
-                answer[1] = a.ipa / BLOCK;
+        "row-11-index-from-1",
+        "the l1 index is counted as the codes are",
+        |_, answer| {
+            if answer[0] == 11 {
+                answer[1] += 1;
             }
         },
     ),
@@ -242,10 +239,10 @@ pub const FAULTS: &[Fault<Fields>] = &[
         "row-12-touching",
         "outputs that only touch overlap",
         |x, answer| {
-            let touch = |(a, b): &(Window, Window)| {
+            let touch = |(a, b): (Window, Window)| {
                 u128::from(a.pa) == b.output_end() || u128::from(b.pa) == a.output_end()
             };
-            if *answer == ACCEPTED && pairs(x).any(|pair| touch(&pair)) {
+            if *answer == ACCEPTED && window_pairs(x).any(touch) {
                 *answer = words([12]);
             }
         },
@@ -258,8 +255,8 @@ pub const FAULTS: &[Fault<Fields>] = &[
             let overlap = |(a, b): (Window, Window)| {
                 u128::from(a.pa) < b.output_end() && u128::from(b.pa) < a.output_end()
             };
-            if answer[0] == 12 && !pairs(x).filter(backed).any(overlap) {
-                *answer = ACCEPTED;
+            if answer[0] == 12 && !window_pairs(x).filter(backed).any(overlap) {
+                *answer = row_11(x).unwrap_or(ACCEPTED);
             }
         },
     ),
@@ -315,17 +312,16 @@ fn before(answer: &Words, row: u64) -> bool {
     *answer == ACCEPTED || answer[0] > row
 }
 
-/// The first pair of windows in one l1 slot.
-fn collision(x: &Fields) -> Option<(Window, Window)> {
-    pairs(x).find(|(a, b)| a.l1_index() == b.l1_index())
+/// Row 11 for the first two windows in one l1 slot, whatever other rows say.
+fn row_11(x: &Fields) -> Option<Words> {
+    window_pairs(x)
+        .find(|(a, b)| a.l1_index() == b.l1_index())
+        .map(|(a, _)| words([11, a.l1_index()]))
 }
 
-fn pairs(x: &Fields) -> impl Iterator<Item = (Window, Window)> {
-    let windows: Vec<Window> = windows(x).collect();
-    let second = windows.clone();
-    let pairs_of = move |(i, a): (usize, Window)| {
-        let after: Vec<_> = second[i + 1..].iter().map(|b| (a, *b)).collect();
-        after
-    };
-    windows.into_iter().enumerate().flat_map(pairs_of)
+fn window_pairs(x: &Fields) -> impl Iterator<Item = (Window, Window)> {
+    let windows = all_windows(x);
+    pairs(windows.len())
+        .map(move |(first, second)| (windows[first], windows[second]))
+        .filter(|(a, b)| a.present && b.present)
 }

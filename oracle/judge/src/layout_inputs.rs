@@ -1,11 +1,12 @@
-//! Layouts at the boundaries of document 01's rows, and random ones.
+//! The layouts that both sides are asked about.
 
 use crate::inputs::{altered, random, Random};
 use crate::layout::{
-    all_windows, validate, windows, Fields, Window, BLOCK, DATA_IPA, DATA_PA, DEVICE, DEVICE_LEN,
-    EXEMPT, FRAME_SIZE, IMAGE, IMAGE_PRESENT, INPUT_LIMIT, L1, L1_SPAN, OUTPUT_LIMIT, PAGE,
-    SUP_FRAMES, SUP_FRAMES_LIMIT, SUP_IPA, SUP_PA, TABLES,
+    validate, Fields, BLOCK, DATA_IPA, DATA_PA, DEVICE, DEVICE_LEN, EXEMPT, FRAME_SIZE, IMAGE,
+    IMAGE_PRESENT, INPUT_LIMIT, L1, L1_SPAN, OUTPUT_LIMIT, PAGE, SUP_FRAMES, SUP_FRAMES_LIMIT,
+    SUP_IPA, SUP_PA, TABLES,
 };
+use crate::layout_edges::{edges, FLAGS};
 
 /// Scene S of document 01.
 pub const SCENE: Fields = [
@@ -31,44 +32,53 @@ pub const SCENE: Fields = [
 /// Fields of scene S and what they are changed to.
 type Changes = &'static [(usize, u64)];
 
-/// Document 01's examples of rows 4 to 12, in their order.
-const REFUSED: [Changes; 9] = [
-    &[(DEVICE_LEN, 4_096)],
-    &[(FRAME_SIZE, 16_384)],
-    &[(SUP_PA, 0x6000_1000)],
-    &[(L1, OUTPUT_LIMIT)],
-    &[(SUP_FRAMES, SUP_FRAMES_LIMIT)],
-    &[(SUP_FRAMES, 513)],
-    &[(DATA_PA, OUTPUT_LIMIT - 4_096)],
-    &[(SUP_IPA, 0x8020_0000)],
-    &[(SUP_PA, 0x5000_0000)],
-];
-
-/// Scene S, the edges that document 01 says are accepted, and what stands next to them.
-const EDGES: [Changes; 10] = [
-    &[],
-    &[(SUP_FRAMES, 512)],
-    &[(DATA_PA, OUTPUT_LIMIT - BLOCK)],
-    &[(DATA_PA, OUTPUT_LIMIT - BLOCK + PAGE)],
-    &[(SUP_FRAMES, 0), (SUP_PA, 0x5000_0000)],
-    &[
-        (SUP_FRAMES, 0),
-        (SUP_PA, 0x5000_0000),
-        (DATA_PA, 0x4fff_f000),
-    ],
-    &[(SUP_FRAMES, 0), (SUP_PA, OUTPUT_LIMIT)],
-    &[(SUP_FRAMES, 0), (SUP_IPA, INPUT_LIMIT)],
+/// Changes of scene S and the row that refuses them, 0 for none: document 01's example of each row,
+/// the edges that it says are accepted, and what stands next to them.
+const EXAMPLES: [(u64, Changes); 19] = [
+    (4, &[(DEVICE_LEN, 4_096)]),
+    (5, &[(FRAME_SIZE, 16_384)]),
+    (6, &[(SUP_PA, 0x6000_1000)]),
+    (7, &[(L1, OUTPUT_LIMIT)]),
+    (8, &[(SUP_FRAMES, SUP_FRAMES_LIMIT)]),
+    (9, &[(SUP_FRAMES, 513)]),
+    (10, &[(DATA_PA, OUTPUT_LIMIT - 4_096)]),
+    (11, &[(SUP_IPA, 0x8020_0000)]),
+    (12, &[(SUP_PA, 0x5000_0000)]),
+    (0, &[]),
+    (0, &[(SUP_FRAMES, 512)]),
+    (0, &[(DATA_PA, OUTPUT_LIMIT - BLOCK)]),
+    (10, &[(DATA_PA, OUTPUT_LIMIT - BLOCK + PAGE)]),
+    (0, &[(SUP_FRAMES, 0), (SUP_PA, 0x5000_0000)]),
+    // Strictly inside data's output, even a window of no frames overlaps.
+    (
+        12,
+        &[
+            (SUP_FRAMES, 0),
+            (SUP_PA, 0x5000_0000),
+            (DATA_PA, 0x4fff_f000),
+        ],
+    ),
+    (0, &[(SUP_FRAMES, 0), (SUP_PA, OUTPUT_LIMIT)]),
+    (9, &[(SUP_FRAMES, 0), (SUP_IPA, INPUT_LIMIT)]),
     // Neither an absent window's address nor the exemption is read.
-    &[(DEVICE_LEN, 0), (DEVICE, u64::MAX), (IMAGE, 1), (EXEMPT, 2)],
-    &[(IMAGE_PRESENT, 2), (IMAGE, 0x1_4000_0000)],
+    (
+        0,
+        &[(DEVICE_LEN, 0), (DEVICE, u64::MAX), (IMAGE, 1), (EXEMPT, 2)],
+    ),
+    (0, &[(IMAGE_PRESENT, 2), (IMAGE, 0x1_4000_0000)]),
 ];
 
 pub fn examples() -> impl Iterator<Item = Fields> {
-    REFUSED.into_iter().chain(EDGES).map(|changes| {
+    EXAMPLES.into_iter().map(|(row, changes)| {
         let mut x = SCENE;
         for (field, value) in changes {
             x[*field] = *value;
         }
+        assert_eq!(
+            validate(&x)[0],
+            row,
+            "document 01 says of which row {changes:x?} is"
+        );
         x
     })
 }
@@ -110,126 +120,6 @@ fn twice_moved(x: Fields) -> impl Iterator<Item = Fields> {
 fn at_edges(x: Fields, field: usize) -> impl Iterator<Item = Fields> {
     let edges = edges(&x, field).into_iter();
     edges.map(move |value| altered(x, |x| x[field] = value))
-}
-
-/// Values of a field where an answer changes, and those next to them.
-fn edges(x: &Fields, field: usize) -> Vec<u64> {
-    let [image, data, sup, device] = all_windows(x);
-    let identity = |window| [input_edges(x, window), output_edges(x, window)].concat();
-    match field {
-        IMAGE => identity(image),
-        DATA_IPA => input_edges(x, data),
-        DATA_PA => output_edges(x, data),
-        FRAME_SIZE => FRAME_SIZES.to_vec(),
-        SUP_IPA => input_edges(x, sup),
-        SUP_PA => output_edges(x, sup),
-        DEVICE => identity(device),
-        DEVICE_LEN => device_lens(x, device),
-        EXEMPT | IMAGE_PRESENT => FLAGS.to_vec(),
-        SUP_FRAMES => frame_counts(x, sup),
-        table => table_edges(x, table),
-    }
-}
-
-const FRAME_SIZES: [u64; 12] = [
-    0,
-    1,
-    2_048,
-    4_095,
-    4_096,
-    4_097,
-    8_192,
-    16_384,
-    65_536,
-    (1 << 32) + 4_096,
-    1 << 63,
-    u64::MAX,
-];
-
-/// All that is not zero is yes, wherever the bit is.
-const FLAGS: [u64; 6] = [0, 1, 2, 1 << 32, 1 << 63, u64::MAX];
-
-/// The ends of a table's addresses, the middle of a page, and the other tables.
-fn table_edges(x: &Fields, table: usize) -> Vec<u64> {
-    let ends = [0, OUTPUT_LIMIT, 0_u64.wrapping_sub(PAGE)];
-    let near = ends.into_iter().chain([x[table]]);
-    near.flat_map(|point| around(point, &[1, PAGE / 2, PAGE]))
-        .chain(x[TABLES].iter().copied())
-        .collect()
-}
-
-/// Where a window leaves its 1 GiB or the input addresses, and where it meets another.
-fn input_edges(x: &Fields, window: Window) -> Vec<u64> {
-    let span = window.span as u64;
-    let slot_end = (window.ipa / L1_SPAN + 1).wrapping_mul(L1_SPAN);
-    let ends = [slot_end, INPUT_LIMIT]
-        .into_iter()
-        .flat_map(|end| [end, end.wrapping_sub(span), end.wrapping_sub(BLOCK)]);
-    // These have the l1 index of the window as it is.
-    let same_index = [INPUT_LIMIT, OUTPUT_LIMIT, 1 << 63].map(|high| window.ipa ^ high);
-    let met = others(x, window).flat_map(|other| {
-        let same_slot = other.ipa / L1_SPAN * L1_SPAN + window.ipa % L1_SPAN;
-        let after = other.ipa.wrapping_add(other.span as u64);
-        [same_slot, other.ipa, after, other.ipa.wrapping_sub(span)]
-    });
-    ends.flat_map(|end| around(end, &[BLOCK]))
-        .chain(same_index)
-        .chain(met)
-        .chain(around(window.ipa, &[1, PAGE, BLOCK, L1_SPAN]))
-        .collect()
-}
-
-/// Where a window's output leaves the output addresses or 64 bits, and where it meets another's.
-fn output_edges(x: &Fields, window: Window) -> Vec<u64> {
-    let span = window.span as u64;
-    // Zero is also 2^64.
-    let ends = [OUTPUT_LIMIT, 0]
-        .into_iter()
-        .flat_map(|end| [end, end.wrapping_sub(span)]);
-    let met = others(x, window).flat_map(|other| {
-        let inside = |part| other.pa.wrapping_add(part);
-        let middle = inside(other.span as u64 / 2 / BLOCK * BLOCK);
-        let before = other.pa.wrapping_sub(span);
-        [before, other.pa, middle, inside(other.span as u64)]
-    });
-    ends.chain(met)
-        .flat_map(|point| around(point, &[PAGE, BLOCK]))
-        .chain(around(window.pa, &[1, PAGE, BLOCK]))
-        .collect()
-}
-
-fn device_lens(x: &Fields, device: Window) -> Vec<u64> {
-    let room = L1_SPAN - device.ipa % L1_SPAN;
-    let met = others(x, device).map(|other| other.pa.wrapping_sub(device.pa));
-    [0, BLOCK, L1_SPAN, INPUT_LIMIT, OUTPUT_LIMIT, 1 << 63, room]
-        .into_iter()
-        .chain(met)
-        .flat_map(|len| around(len, &[1, PAGE, BLOCK]))
-        .collect()
-}
-
-fn frame_counts(x: &Fields, sup: Window) -> Vec<u64> {
-    let room = (L1_SPAN - sup.ipa % L1_SPAN) / BLOCK;
-    let met = others(x, sup).map(|other| other.pa.wrapping_sub(sup.pa) / BLOCK);
-    let powers = [18, 42, 43, 44, 63].map(|bits| 1 << bits);
-    [0, 512, room]
-        .into_iter()
-        .chain(powers)
-        .chain(met)
-        .flat_map(|count| around(count, &[1]))
-        .collect()
-}
-
-fn others(x: &Fields, window: Window) -> impl Iterator<Item = Window> {
-    windows(x).filter(move |other| other.code != window.code)
-}
-
-/// The point, and what is one unit below and above.
-fn around(point: u64, units: &[u64]) -> Vec<u64> {
-    let neighbours = units
-        .iter()
-        .flat_map(|unit| [point.wrapping_sub(*unit), point.wrapping_add(*unit)]);
-    [point].into_iter().chain(neighbours).collect()
 }
 
 /// An accepted layout with up to three fields moved to an edge, so that rows compete.

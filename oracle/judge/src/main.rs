@@ -9,6 +9,7 @@ mod guard_faults;
 mod guard_inputs;
 mod inputs;
 mod layout;
+mod layout_edges;
 mod layout_faults;
 mod layout_inputs;
 mod p2m;

@@ -1,6 +1,6 @@
 //! The port's side: the three functions that its static libraries export.
 
-use crate::guard::{Lent, Scene};
+use crate::guard::Scene;
 use crate::inputs::Words;
 use crate::layout::Fields;
 
@@ -58,4 +58,26 @@ pub fn guard(scene: &Scene) -> Words {
     }
     assert!(lent == Lent::new(scene), "probe_guard stores into {scene}");
     out
+}
+
+/// What a call is lent, to see afterwards that nothing was stored there.
+#[derive(PartialEq)]
+struct Lent {
+    arena: Vec<u64>,
+    base: Vec<u8>,
+    sup: Vec<u8>,
+    fields: Fields,
+}
+
+impl Lent {
+    fn new(scene: &Scene) -> Self {
+        // A byte that row 3 refuses stands past each map, so that reading on shows.
+        let fenced = |map: &[u8]| [map, &[u8::MAX]].concat();
+        Lent {
+            arena: vec![UNWRITTEN; scene.arena_len],
+            base: fenced(&scene.base),
+            sup: fenced(&scene.sup),
+            fields: scene.fields,
+        }
+    }
 }

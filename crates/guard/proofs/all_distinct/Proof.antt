@@ -1,0 +1,85 @@
+-- `all_distinct` meets its contract: the first row is that of the pairs from i on.
+use Rattle.guard.proofs.all_distinct.Statement.{statement}
+use Rattle.guard.proofs.all_distinct.Tie as tie
+use Prim.Native.Nat.{_≤_, _<_, _-_}
+use mathlib.Core.Path.{_≡_, refl, sym, _∙_}
+use native.Mathlib.Omega.{arith}
+use lib.ListN.{length, drop}
+use borrow.Author.Needs.{needs}
+use Rattle.refusal.specs.Table.{first, pairs}
+use Rattle.refusal.proofs.First.{next, stop}
+use Rattle.refusal.proofs.Parts.{pairs-at, pairs-end}
+use Rattle.guard.specs.Rows.{row13}
+
+abbrev Inv-loop : tie.InvT-loop
+Inv-loop ts i₀ i = first (pairs row13 ts) ≡ first (pairs row13 (drop i ts))
+
+abbrev μ-loop : tie.MeasureT-loop
+μ-loop ts i₀ i = 6 - i
+
+loop-holds : tie.Need-loop-holds Inv-loop μ-loop
+loop-holds c = refl
+
+mul-distinct-from : tie.Need-mul-distinct-from Inv-loop μ-loop
+mul-distinct-from c = search needs
+
+array-copy-out-distinct-from : tie.Need-array-copy-out-distinct-from Inv-loop μ-loop
+array-copy-out-distinct-from c = search needs
+
+add-distinct-from : tie.Need-add-distinct-from Inv-loop μ-loop
+add-distinct-from c = search needs
+
+distinct-from-requires : tie.Need-distinct-from-requires Inv-loop μ-loop
+distinct-from-requires c κs = search needs
+
+enum-told : tie.Need-enum-told Inv-loop μ-loop
+enum-told c = search needs
+
+enum-told-2 : tie.Need-enum-told-2 Inv-loop μ-loop
+enum-told-2 c = search needs
+
+returns : tie.Need-returns Inv-loop μ-loop
+returns c = let h = c .before .before .before .before .before in
+    let a = h .before in
+    let v = c .before .before .distinct-from in
+    let inside : h .loop .i < length (a .args .t1) = omega (arith, a .good .0 .1 .0 .1) in
+    let refused = c .enum-told2 .given in
+    stop _ _ (v .result) (refused .0 .0) (pairs-at (a .args .t1) (h .loop .i) _ inside row13) (refused .1) (v .ensures) ∙ sym (h .loop .inv)
+
+add-i : tie.Need-add-i Inv-loop μ-loop
+add-i c = search needs
+
+loop-less : tie.Need-loop-less Inv-loop μ-loop
+loop-less c = search needs
+
+loop-again : tie.Need-loop-again Inv-loop μ-loop
+loop-again c = let h = c .before .before .before .before .before in
+    let a = h .before in
+    let v = c .before .before .distinct-from in
+    let inside : h .loop .i < length (a .args .t1) = omega (arith, a .good .0 .1 .0 .1) in
+    h .loop .inv ∙ next _ _ (v .result) (pairs-at (a .args .t1) (h .loop .i) _ inside row13) (c .enum-told .given .1) (v .ensures)
+
+returns-2 : tie.Need-returns-2 Inv-loop μ-loop
+returns-2 c = let h = c .before in
+    let a = h .before in
+    let outside : length (a .args .t1) ≤ h .loop .i = omega (arith, a .good .0 .1 .0 .1) in
+    pairs-end (a .args .t1) (h .loop .i) outside row13 ∙ sym (h .loop .inv)
+
+pub all-distinct-spec : {M : Type 1} → statement M
+all-distinct-spec =
+    tie.close
+    (tie.spec
+    Inv-loop
+    μ-loop
+    loop-holds
+    mul-distinct-from
+    array-copy-out-distinct-from
+    add-distinct-from
+    distinct-from-requires
+    enum-told
+    enum-told-2
+    returns
+    add-i
+    loop-less
+    loop-again
+    returns-2)

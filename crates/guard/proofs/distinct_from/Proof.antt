@@ -1,0 +1,71 @@
+-- `distinct_from` meets its contract: the first row is that of the tables from i on.
+use Rattle.guard.proofs.distinct_from.Statement.{statement}
+use Rattle.guard.proofs.distinct_from.Tie as tie
+use Rattle.guard.proofs.distinct_from.Reads as reads
+use Rattle.guard.proofs.distinct_from.Lts as lts
+use Prim.Native.Nat.{_≤_, _<_, _-_}
+use mathlib.Core.Path.{_≡_, refl, sym, _∙_}
+use native.Mathlib.Omega.{arith}
+use lib.ListN.{length, drop}
+use borrow.Author.Needs.{needs}
+use borrow.Author.Tests.{eq-eqb, ne-eqb}
+use Rattle.refusal.specs.Table.{first, each}
+use Rattle.refusal.proofs.Parts.{each-at, each-end}
+use Rattle.guard.specs.Rows.{row13}
+use Rattle.layout.specs.Layout.{tableAt}
+
+abbrev Inv-loop : tie.InvT-loop
+Inv-loop t from ts i₀ i = first (each (row13 t) (drop from ts)) ≡ first (each (row13 t) (drop i ts))
+
+abbrev μ-loop : tie.MeasureT-loop
+μ-loop t from ts i₀ i = 6 - i
+
+loop-holds : tie.Need-loop-holds Inv-loop μ-loop
+loop-holds c = refl
+
+mul-other : tie.Need-mul-other Inv-loop μ-loop
+mul-other c = search needs
+
+array-copy-out-other : tie.Need-array-copy-out-other Inv-loop μ-loop
+array-copy-out-other c = search needs
+
+returns : tie.Need-returns Inv-loop μ-loop
+unfolding row13 first
+returns c = let h = c .before .before .before .before .before in
+    let a = h .before in
+    let inside : h .loop .i < length (a .args .t2) = omega (arith, a .good .1 .0 .1 .0 .1) in
+    rw (h .loop .inv, each-at (a .args .t2) (h .loop .i) (tableAt 0 0) inside (row13 (a .args .t)), eq-eqb _ _ (c .if1 .taken))
+
+add-i : tie.Need-add-i Inv-loop μ-loop
+add-i c = search needs
+
+loop-less : tie.Need-loop-less Inv-loop μ-loop
+loop-less c = search needs
+
+loop-again : tie.Need-loop-again Inv-loop μ-loop
+unfolding row13
+loop-again c = let h = c .before .before .before .before .before in
+    let a = h .before in
+    let inside : h .loop .i < length (a .args .t2) = omega (arith, a .good .1 .0 .1 .0 .1) in
+    rw (h .loop .inv, each-at (a .args .t2) (h .loop .i) (tableAt 0 0) inside (row13 (a .args .t)), ne-eqb _ _ (c .if1 .left))
+
+returns-2 : tie.Need-returns-2 Inv-loop μ-loop
+returns-2 c = let h = c .before in
+    let a = h .before in
+    let outside : length (a .args .t2) ≤ h .loop .i = omega (arith, a .good .1 .0 .1 .0 .1) in
+    each-end (a .args .t2) (h .loop .i) outside (row13 (a .args .t)) ∙ sym (h .loop .inv)
+
+pub distinct-from-spec : {M : Type 1} → statement M
+distinct-from-spec =
+    tie.close
+    (tie.spec
+    Inv-loop
+    μ-loop
+    loop-holds
+    mul-other
+    array-copy-out-other
+    returns
+    add-i
+    loop-less
+    loop-again
+    returns-2)

@@ -1,0 +1,92 @@
+// What guards encoding and updates: rows 1 to 14 of document 01's table.
+use layout::Layout;
+use layout::Table;
+use refusal::Refusal;
+use refusal::Verdict;
+ghost use mathlib.Core.Path.{_≡_};
+ghost use lib.ListN.{drop};
+ghost use Rattle.layout.specs.Layout.{tablesOf};
+ghost use Rattle.layout.specs.Size.{outputLimit};
+ghost use Rattle.refusal.specs.Outcome.{outcomeOf};
+ghost use Rattle.refusal.specs.Table.{first, each, eachFrom, pairs};
+ghost use Rattle.guard.specs.Rows.{row13, row14, guardRows, arenaGuardRows};
+
+// Rows 1 to 14.
+pub fn guard(arena: &[u64], base: &[u8], sup: &[u8], l: Layout) -> Verdict
+    ensures { λ r. ⌜ outcomeOf r ≡ first (arenaGuardRows outputLimit (now (arena .entry)) (now (base .entry)) (now (sup .entry)) l) ⌝ }
+{
+    guard_at(Layout::OUTPUT_LIMIT, arena, base, sup, l)
+}
+
+// The same where tables and outputs lie below a limit of the caller's.
+pub fn guard_at(limit: u64, arena: &[u64], base: &[u8], sup: &[u8], l: Layout) -> Verdict
+    ensures { λ r. ⌜ outcomeOf r ≡ first (arenaGuardRows limit (now (arena .entry)) (now (base .entry)) (now (sup .entry)) l) ⌝ }
+{
+    let verdict = lent::arena_len(arena);
+    let Verdict::Accepted = verdict else {
+        return verdict;
+    };
+    guard_maps_at(limit, base, sup, l)
+}
+
+// Rows 2 to 14, where no arena is lent.
+pub fn guard_maps_at(limit: u64, base: &[u8], sup: &[u8], l: Layout) -> Verdict
+    ensures { λ r. ⌜ outcomeOf r ≡ first (guardRows limit (now (base .entry)) (now (sup .entry)) l) ⌝ }
+{
+    let maps = lent::maps(base, sup);
+    let Verdict::Accepted = maps else {
+        return maps;
+    };
+    let valid = validate::validate_at(limit, l);
+    let Verdict::Accepted = valid else {
+        return valid;
+    };
+    let distinct = all_distinct(l.tables());
+    let Verdict::Accepted = distinct else {
+        return distinct;
+    };
+    backed(l.sup_frames, sup)
+}
+
+// Row 13, over every pair.
+fn all_distinct(ts: [Table; 6]) -> Verdict
+    ensures { λ r. ⌜ outcomeOf r ≡ first (pairs row13 ts) ⌝ }
+{
+    for i in 0..6 {
+        let verdict = distinct_from(ts[i], ts, i + 1);
+        let Verdict::Accepted = verdict else {
+            return verdict;
+        };
+    }
+    Verdict::Accepted
+}
+
+// Row 13, of a table and those from the given one on.
+fn distinct_from(t: Table, ts: [Table; 6], from: usize) -> Verdict
+    ensures { λ r. ⌜ outcomeOf r ≡ first (each (row13 t) (drop from ts)) ⌝ }
+{
+    for i in from..6 {
+        let other = ts[i];
+        if t.pa == other.pa {
+            return Verdict::Refused(Refusal::TablesEqual {
+                first: t.code,
+                second: other.code,
+            });
+        }
+    }
+    Verdict::Accepted
+}
+
+// Row 14. No memory is reserved for such a super.
+fn backed(sup_frames: u64, sup: &[u8]) -> Verdict
+    ensures { λ r. ⌜ outcomeOf r ≡ first (eachFrom (row14 «sup_frames») 0 (now (sup .entry))) ⌝ }
+{
+    for i in 0..sup.len() {
+        if sup[i] != 0 {
+            if sup_frames <= i as u64 {
+                return Verdict::Refused(Refusal::SuperUnbacked { position: i as u64 });
+            }
+        }
+    }
+    Verdict::Accepted
+}
