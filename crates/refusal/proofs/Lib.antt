@@ -1,2 +1,3 @@
 pub mod First
+pub mod None
 pub mod Parts

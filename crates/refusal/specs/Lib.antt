@@ -1,2 +1,3 @@
+pub mod All
 pub mod Outcome
 pub mod Table

@@ -22,13 +22,13 @@ row10 limit w = given (w .present) (refuseIf (ltb limit (w .pa + w .span)) 10 (w
 abbrev pub row11 : Window → Window → List Row
 row11 v w = refuseIf (eqb (slot v) (slot w)) 11 (slot v ∷ [])
 
--- an output address is below the window's output end
-abbrev pub below : ℕ → Window → Bool
-below pa w = ltb pa (w .pa + w .span)
+-- two ranges overlap, by their bases and lengths; one of no length does so only strictly inside
+abbrev pub overlap : ℕ → ℕ → ℕ → ℕ → Bool
+overlap a alen b blen = ltb a (b + blen) && ltb b (a + alen)
 
--- row 12: their outputs overlap
+-- row 12: outputs overlap
 abbrev pub row12 : Window → Window → List Row
-row12 v w = refuseIf (below (v .pa) w && below (w .pa) v) 12 []
+row12 v w = refuseIf (overlap (v .pa) (v .span) (w .pa) (w .span)) 12 []
 
 -- 11 and 12 of two windows, if both are present
 unfoldable pub pairRows : Window → Window → List Row

@@ -3,11 +3,13 @@ use layout::Layout;
 use layout::Window;
 use refusal::Refusal;
 use refusal::Verdict;
+ghost use Prim.Native.Nat.{_+_};
 ghost use mathlib.Core.Path.{_≡_};
+ghost use lib.Dec.{ltb};
 ghost use lib.ListN.{drop};
 ghost use Rattle.refusal.specs.Outcome.{outcomeOf};
 ghost use Rattle.refusal.specs.Table.{first, each, pairs};
-ghost use Rattle.windows.specs.Rows.{below, row9, row10, row11, row12, pairRows, windowRows};
+ghost use Rattle.windows.specs.Rows.{row9, row10, pairRows, windowRows};
 
 // Rows 9 and 10, each over all windows, then 11 and 12, pair by pair.
 pub fn windows(limit: u64, ws: [Window; 4]) -> Verdict
@@ -138,7 +140,7 @@ fn apart(v: Window, w: Window) -> Verdict
 
 // Whether an output address is below a window's output end, without the sum.
 fn begins_below(pa: u64, w: Window) -> bool
-    ensures { λ r. ⌜ r ≡ below pa w ⌝ }
+    ensures { λ r. ⌜ r ≡ ltb pa (w .pa + w .span) ⌝ }
 {
     if pa < w.pa {
         return true;

@@ -1,0 +1,157 @@
+-- An accepted layout has the facts of every row: where no row applies, each test is false.
+use Prim.Native.Nat.{ℕ, _+_, _%_, _≤_, _<_}
+use mathlib.Core.Bool.{Bool, true, false, not, _&&_, _||_, and-false}
+use mathlib.Core.List.{List, [], _∷_, _++_, flatMap}
+use mathlib.Core.Logic.{_⊎_, inl, inr}
+use mathlib.Core.Path.{_≡_, refl, sym}
+use native.Mathlib.Numerals.{lt-of-le-of-ne}
+use native.Mathlib.Omega.{arith}
+use lib.Dec.{eqb, leb, ltb}
+use borrow.Author.Tests.{ltb-true, ltb-false, leb-false, eqb-true, eqb-false, not-false, le-ltb}
+use Rattle.accepted.specs.Accepted.{Nameable, Within, Disjoint, Apart, Accepted, AcceptedFacts, NoInputOverlap}
+use Rattle.layout.specs.Layout.{tablesOf}
+use Rattle.layout.specs.Size.{page, block, l1Span, entries, inputLimit}
+use Rattle.layout.specs.Window.{windowsOf, slot}
+use Rattle.layout.specs.declared.Layout.{Layout}
+use Rattle.layout.specs.declared.Table.{Table}
+use Rattle.layout.specs.declared.Window.{Window}
+use Rattle.refusal.proofs.None.{none, both, test, under, each-none, pairs-none}
+use Rattle.refusal.specs.All.{All, AllPairs}
+use Rattle.refusal.specs.Table.{Row, accepted, first, given, refuseIf, each, pairs}
+use Rattle.validate.specs.Rows.{unaligned, check, checksOf, row4, row5, row6, row7, row8, refusalsAt}
+use Rattle.windows.specs.Rows.{overlap, row9, row10, row11, row12, pairRows, windowRows}
+
+neither : (a b : Bool) → (a || b) ≡ false → (a ≡ false) × (b ≡ false)
+neither true b e = absurd (let z : _≡_ {A = ℕ} 0 1 = cc in omega arith)
+neither false b e = (refl, e)
+
+-- row 9
+
+inside : (w : Window) → w .present ≡ true → row9 w ≡ [] → (w .ipa < inputLimit) × (w .ipa % l1Span + w .span ≤ l1Span)
+unfolding row9
+inside w p e =
+    let t = neither _ _ (test _ _ _ (under (w .present) _ p e)) in (leb-false _ _ (t .0), ltb-false _ _ (t .1))
+
+-- row 10
+
+output : (limit : ℕ) (w : Window) → w .present ≡ true → row10 limit w ≡ [] → w .pa + w .span ≤ limit
+unfolding row10
+output limit w p e = ltb-false _ _ (test _ _ _ (under (w .present) _ p e))
+
+-- in different slots, and each within its own, inputs do not meet
+inputs :
+    (v w : Window) → v .present ≡ true → w .present ≡ true → row9 v ≡ [] → row9 w ≡ [] → (slot v ≡ slot w → ⊥) →
+    Disjoint (v .ipa) (v .span) (w .ipa) (w .span)
+inputs v w p q e f s = go (ltb (slot v) (slot w)) refl
+  where
+    go : (b : Bool) → ltb (slot v) (slot w) ≡ b → Disjoint (v .ipa) (v .span) (w .ipa) (w .span)
+    go true t =
+        let i = inside v p e in
+        let j = inside w q f in
+        let k : slot v < slot w = ltb-true _ _ t in inl (omega arith)
+    go false t =
+        let i = inside v p e in
+        let j = inside w q f in
+        let k : slot w ≤ slot v = ltb-false _ _ t in
+        let m : slot w < slot v = lt-of-le-of-ne k (λ x. s (sym x)) in inr (omega arith)
+
+-- rows 11 and 12
+
+outputs : (a alen b blen : ℕ) → overlap a alen b blen ≡ false → Disjoint a alen b blen
+outputs a alen b blen e = go (ltb a (b + blen)) refl e
+  where
+    go : (t : Bool) → ltb a (b + blen) ≡ t → (t && ltb b (a + alen)) ≡ false → Disjoint a alen b blen
+    go true h f = inl (ltb-false _ _ f)
+    go false h f = inr (ltb-false _ _ h)
+
+pair-rows :
+    (v w : Window) → v .present ≡ true → w .present ≡ true → pairRows v w ≡ [] → (row11 v w ≡ []) × (row12 v w ≡ [])
+unfolding pairRows
+pair-rows v w p q e =
+    let f : (v .present && w .present) ≡ true = rw (p, q) in
+    both (row11 v w) (row12 v w) (under (v .present && w .present) (row11 v w ++ row12 v w) f e)
+
+different : (v w : Window) → row11 v w ≡ [] → slot v ≡ slot w → ⊥
+different v w e = eqb-false _ _ (test _ _ _ e)
+
+apart : (v w : Window) → row9 v ≡ [] → row9 w ≡ [] → pairRows v w ≡ [] → v .present ≡ true → w .present ≡ true → Apart v w
+apart v w e f g p q =
+    let r = pair-rows v w p q g in
+    let s = different v w (r .0) in
+    record { slots = s; inputs = inputs v w p q e f s; outputs = outputs _ _ _ _ (test _ _ _ (r .1)) }
+
+pub no-input-overlap : NoInputOverlap
+no-input-overlap v w p q e f g = go (inputs v w p q e f (different v w g))
+  where
+    go : Disjoint (v .ipa) (v .span) (w .ipa) (w .span) → overlap (v .ipa) (v .span) (w .ipa) (w .span) ≡ false
+    go (inl h) = rw (le-ltb _ _ h) (and-false (ltb (v .ipa) (w .ipa + w .span)))
+    go (inr h) = rw (le-ltb _ _ h)
+
+-- the rows of lists
+
+within-all :
+    (limit : ℕ) (ws : List Window) → All (λ w. row9 w ≡ []) ws → All (λ w. row10 limit w ≡ []) ws →
+    All (λ w. w .present ≡ true → Within limit w) ws
+within-all limit [] e f = tt
+within-all limit (w ∷ ws) e f = (one, within-all limit ws (e .1) (f .1))
+  where
+    one : w .present ≡ true → Within limit w
+    one p = let i = inside w p (e .0) in record { below = i .0; inside = i .1; output = output limit w p (f .0) }
+
+apart-from :
+    (v : Window) (ws : List Window) → row9 v ≡ [] → All (λ w. row9 w ≡ []) ws → All (λ w. pairRows v w ≡ []) ws →
+    All (λ w. v .present ≡ true → w .present ≡ true → Apart v w) ws
+apart-from v [] e f g = tt
+apart-from v (w ∷ ws) e f g = (apart v w e (f .0) (g .0), apart-from v ws e (f .1) (g .1))
+
+apart-all :
+    (ws : List Window) → All (λ w. row9 w ≡ []) ws → AllPairs (λ v w. pairRows v w ≡ []) ws →
+    AllPairs (λ v w. v .present ≡ true → w .present ≡ true → Apart v w) ws
+apart-all [] e f = tt
+apart-all (w ∷ ws) e f = (apart-from w ws (e .0) (e .1) (f .0), apart-all ws (e .1) (f .1))
+
+aligned : (n unit : ℕ) → unaligned n unit ≡ false → n % unit ≡ 0
+aligned n unit e = eqb-true _ _ (not-false _ e)
+
+nameable-all : (limit : ℕ) (ts : List Table) → All (λ t. row7 limit t ≡ []) ts → All (Nameable limit) ts
+unfolding row7
+nameable-all limit [] e = tt
+nameable-all limit (t ∷ ts) e =
+    let r = neither _ _ (test _ _ _ (e .0)) in
+    (record { below = leb-false _ _ (r .0); aligned = aligned _ _ (r .1) }, nameable-all limit ts (e .1))
+
+-- a check of row 6, where it applies
+checked : (n : ℕ) (applies : Bool) (base align : ℕ) → row6 (check n applies base align) ≡ [] → applies ≡ true → base % align ≡ 0
+unfolding row6
+checked n applies base align e p =
+    let f : (applies && unaligned base align) ≡ false = test _ _ _ e in aligned base align (rw p at f)
+
+pub accepted-facts : AcceptedFacts
+unfolding refusalsAt windowRows flatMap row4 row5 row8
+accepted-facts limit l e =
+    let rows = none _ e in
+    let r4 = both (row4 l) _ rows in
+    let r5 = both (row5 l) _ (r4 .1) in
+    let r6 = both (each row6 (checksOf l)) _ (r5 .1) in
+    let r7 = both (each (row7 limit) (tablesOf l)) _ (r6 .1) in
+    let r8 = both (row8 l) _ (r7 .1) in
+    let rest = both (windowRows limit (windowsOf l)) [] (r8 .1) .0 in
+    let r9 = both (each row9 (windowsOf l)) _ rest in
+    let r10 = both (each (row10 limit) (windowsOf l)) _ (r9 .1) in
+    let r11 = both (pairs pairRows (windowsOf l)) [] (r10 .1) in
+    let within = each-none row9 (windowsOf l) (r9 .0) in
+    let six = each-none row6 (checksOf l) (r6 .0) in
+    record {
+      device-len = aligned _ _ (test _ _ _ (r4 .0));
+      frame-size = eqb-true _ _ (not-false _ (test _ _ _ (r5 .0)));
+      data-ipa = checked 1 true _ _ (six .0) refl;
+      data-pa = checked 2 true _ _ (six .1 .0) refl;
+      sup-ipa = checked 3 true _ _ (six .1 .1 .0) refl;
+      sup-pa = checked 4 true _ _ (six .1 .1 .1 .0) refl;
+      image = checked 5 _ _ _ (six .1 .1 .1 .1 .0);
+      device = checked 6 _ _ _ (six .1 .1 .1 .1 .1 .0);
+      tables = nameable-all limit (tablesOf l) (each-none (row7 limit) (tablesOf l) (r7 .0));
+      frames = leb-false _ _ (test _ _ _ (r8 .0));
+      windows = within-all limit (windowsOf l) within (each-none (row10 limit) (windowsOf l) (r10 .0));
+      apart = apart-all (windowsOf l) within (pairs-none pairRows (windowsOf l) (r11 .0));
+    }

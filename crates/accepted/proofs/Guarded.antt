@@ -1,0 +1,67 @@
+-- Where encoding or an update is let by, maps, tables and supers have the facts of rows 1 to 14.
+use Prim.Native.Nat.{ℕ, _≤_, _<_}
+use mathlib.Core.Bool.{true, false, not, _&&_}
+use mathlib.Core.List.{List, [], _∷_, flatMap}
+use mathlib.Core.Path.{_≡_, sym}
+use lib.Dec.{eqb, leb}
+use lib.ListN.{length, getD}
+use borrow.Author.Tests.{ltb-false, leb-false, eqb-true, eqb-false, ne-eqb, not-false}
+use Rattle.accepted.proofs.Accepted.{accepted-facts}
+use Rattle.accepted.specs.Guarded.{Readable, Guarded, GuardedFacts, ArenaGuardedFacts}
+use Rattle.guard.specs.Rows.{row13, row14, guardRows, arenaGuardRows}
+use Rattle.layout.specs.Layout.{tablesOf}
+use Rattle.layout.specs.declared.Table.{Table}
+use Rattle.lent.specs.Rows.{row1, row2, row3, lengthRows, mapRows}
+use Rattle.refusal.proofs.None.{none, accept, both, test, pairs-none, from-none}
+use Rattle.refusal.specs.All.{All, AllPairs}
+use Rattle.refusal.specs.Table.{accepted, first, eachFrom, pairs}
+use Rattle.validate.specs.Rows.{refusalsAt}
+
+readable : (code : ℕ) (map : List ℕ) → row2 map ≡ [] → eachFrom (row3 code) 0 map ≡ [] → Readable map
+unfolding row2 row3
+readable code map e f =
+    record {
+      short = ltb-false _ _ (test _ _ _ e);
+      codes = λ p h. ltb-false _ _ (test _ _ _ (from-none (row3 code) map 0 f p h));
+    }
+
+distinct-from : (s : Table) (ts : List Table) → All (λ t. row13 s t ≡ []) ts → All (λ t. s .pa ≡ t .pa → ⊥) ts
+unfolding row13
+distinct-from s [] e = tt
+distinct-from s (t ∷ ts) e = (eqb-false _ _ (test _ _ _ (e .0)), distinct-from s ts (e .1))
+
+distinct-all : (ts : List Table) → AllPairs (λ s t. row13 s t ≡ []) ts → AllPairs (λ s t. s .pa ≡ t .pa → ⊥) ts
+distinct-all [] e = tt
+distinct-all (t ∷ ts) e = (distinct-from t ts (e .0), distinct-all ts (e .1))
+
+backed :
+    (frames : ℕ) (sup : List ℕ) → eachFrom (row14 frames) 0 sup ≡ [] →
+    (p : ℕ) → p < length sup → (getD sup p 0 ≡ 0 → ⊥) → p < frames
+unfolding row14
+backed frames sup e p h ne =
+    let f : (not (eqb (getD sup p 0) 0) && leb frames p) ≡ false = test _ _ _ (from-none (row14 frames) sup 0 e p h) in
+    leb-false _ _ (rw (ne-eqb _ _ ne) at f)
+
+pub guarded-facts : GuardedFacts
+unfolding guardRows mapRows lengthRows flatMap
+guarded-facts limit base sup l e =
+    let maps = both (mapRows base sup) _ (none _ e) in
+    let lengths = both (lengthRows base sup) _ (maps .0) in
+    let r2 = both (row2 base) _ (lengths .0) in
+    let codes = both (eachFrom (row3 1) 0 base) _ (lengths .1) in
+    let valid = both (refusalsAt limit l) _ (maps .1) in
+    let r13 = both (pairs row13 (tablesOf l)) _ (valid .1) in
+    record {
+      base-map = readable 1 base (r2 .0) (codes .0);
+      sup-map = readable 2 sup (both (row2 sup) [] (r2 .1) .0) (both (eachFrom (row3 2) 0 sup) [] (codes .1) .0);
+      layout = accepted-facts limit l (accept _ (valid .0));
+      distinct = distinct-all (tablesOf l) (pairs-none row13 (tablesOf l) (r13 .0));
+      backed = backed (l .«sup_frames») sup (both (eachFrom (row14 (l .«sup_frames»)) 0 sup) [] (r13 .1) .0);
+    }
+
+pub arena-guarded-facts : ArenaGuardedFacts
+unfolding arenaGuardRows row1 flatMap
+arena-guarded-facts limit arena base sup l e =
+    let r1 = both (row1 arena) _ (none _ e) in
+    let rest = both (guardRows limit base sup l) [] (r1 .1) .0 in
+    (eqb-true _ _ (not-false _ (test _ _ _ (r1 .0))), guarded-facts limit base sup l (accept _ rest))

@@ -1,0 +1,1 @@
+// What follows where nothing is refused: definitions and theorems alone.
