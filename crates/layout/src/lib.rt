@@ -46,7 +46,9 @@ pub struct Window {
 
 impl Layout {
     pub const PAGE_SIZE: u64 = 4096;
+
     pub const BLOCK_SIZE: u64 = 512 * Self::PAGE_SIZE;
+
     pub const L1_ENTRY_SIZE: u64 = 512 * Self::BLOCK_SIZE;
     // The first address that the nine index bits of level 1 do not reach.
     pub const ADDRESSABLE: u64 = 512 * Self::L1_ENTRY_SIZE;
@@ -88,12 +90,30 @@ impl Layout {
         ensures { λ r. ⌜ r ≡ tablesOf self ⌝ }
     {
         [
-            Table { code: 1, pa: self.l1_pa },
-            Table { code: 2, pa: self.l2_code_pa },
-            Table { code: 3, pa: self.l2_data_pa },
-            Table { code: 4, pa: self.l3_data_pa },
-            Table { code: 5, pa: self.l2_sup_pa },
-            Table { code: 6, pa: self.l2_dev_pa },
+            Table {
+                code: 1,
+                pa: self.l1_pa,
+            },
+            Table {
+                code: 2,
+                pa: self.l2_code_pa,
+            },
+            Table {
+                code: 3,
+                pa: self.l2_data_pa,
+            },
+            Table {
+                code: 4,
+                pa: self.l3_data_pa,
+            },
+            Table {
+                code: 5,
+                pa: self.l2_sup_pa,
+            },
+            Table {
+                code: 6,
+                pa: self.l2_dev_pa,
+            },
         ]
     }
 

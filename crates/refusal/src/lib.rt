@@ -48,7 +48,11 @@ impl Refusal {
             Refusal::MapCode { map, position } => [3, map, position, 0, 0, 0, 0, 0],
             Refusal::DeviceWindowUnaligned { base, len } => [4, base, len, 0, 0, 0, 0, 0],
             Refusal::GranuleNotEmitted { frame_size } => [5, frame_size, 0, 0, 0, 0, 0, 0],
-            Refusal::WindowUnaligned { window, base, align } => [6, window, base, align, 0, 0, 0, 0],
+            Refusal::WindowUnaligned {
+                window,
+                base,
+                align,
+            } => [6, window, base, align, 0, 0, 0, 0],
             Refusal::TableUnnameable { table, pa } => [7, table, pa, 0, 0, 0, 0, 0],
             Refusal::SuperFramesUncountable { count } => [8, count, 0, 0, 0, 0, 0, 0],
             Refusal::RegionCrossesL1 { l1_index, span } => [9, l1_index, span, 0, 0, 0, 0, 0],

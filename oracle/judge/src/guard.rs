@@ -1,7 +1,8 @@
 //! What encoding and updating test before they store a word: `validate` between the rows that
 //! document 01 adds.
 //!
-//! Rows 1, 2, 3, 13 and 14 are not in the Rust. They are computed here from document 01's table.
+//! Rows 1, 2, 3, 13 and 14 are not in the Rust: they are computed here from document 01's table.
+//! Rows 4 to 12 are as in layout.rs.
 
 use std::fmt::{self, Display, Formatter};
 

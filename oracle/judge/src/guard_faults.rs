@@ -19,9 +19,7 @@ pub const FAULTS: &[Fault<Scene>] = &[
     fault(
         "row-1-after-row-2",
         "the maps' lengths are tested before the arena's",
-        |scene, answer| {
-            *answer = row_2(scene).unwrap_or(*answer);
-        },
+        |scene, answer| *answer = row_2(scene).unwrap_or(*answer),
     ),
     fault(
         "row-2-of-513",
@@ -90,8 +88,13 @@ pub const FAULTS: &[Fault<Scene>] = &[
         "row-13-neighbours-alone",
         "a table is compared with the next one only",
         |scene, answer| {
-            if answer[0] == 13 && answer[2] > answer[1] + 1 {
-                *answer = row_14(scene).unwrap_or(ACCEPTED);
+            if answer[0] == 13 {
+                let x = &scene.fields;
+                let equal = (1..TABLES.end).find(|second| x[second - 1] == x[*second]);
+                *answer = equal
+                    .map(|second| words([13, second as u64, 1 + second as u64]))
+                    .or_else(|| row_14(scene))
+                    .unwrap_or(ACCEPTED);
             }
         },
     ),
@@ -101,10 +104,9 @@ pub const FAULTS: &[Fault<Scene>] = &[
         |scene, answer| {
             let x = &scene.fields;
             let equal = pairs(TABLES.end).filter(|(first, second)| x[*first] == x[*second]);
-            if let Some((first, second)) = equal.min_by_key(|(_, second)| *second) {
-                if answer[0] == 13 {
-                    *answer = words([13, 1 + first as u64, 1 + second as u64]);
-                }
+            let lowest = equal.min_by_key(|(_, second)| *second);
+            if let Some((first, second)) = lowest.filter(|_| answer[0] == 13) {
+                *answer = words([13, 1 + first as u64, 1 + second as u64]);
             }
         },
     ),

@@ -17,10 +17,14 @@ use crate::undefined::defined;
 /// Document 01's fields 01 to 10 (hexadecimal), and whether there is an image.
 pub type Fields = [u64; 17];
 
-/// The places of the fields: document 01's numbers less one.
+/// The places of the fields: document 01's numbers less one. The tables come first.
 pub const TABLES: Range<usize> = 0..6;
 pub const L1: usize = 0;
 pub const L2_CODE: usize = 1;
+pub const L2_DATA: usize = 2;
+pub const L3_DATA: usize = 3;
+pub const L2_SUP: usize = 4;
+pub const L2_DEV: usize = 5;
 pub const IMAGE: usize = 6;
 pub const DATA_IPA: usize = 7;
 pub const DATA_PA: usize = 8;
@@ -120,10 +124,10 @@ fn layout(x: &Fields) -> Layout {
     Layout {
         l1_pa: x[L1],
         l2_code_pa: x[L2_CODE],
-        l2_data_pa: x[2],
-        l3_data_pa: x[3],
-        l2_sup_pa: x[4],
-        l2_dev_pa: x[5],
+        l2_data_pa: x[L2_DATA],
+        l3_data_pa: x[L3_DATA],
+        l2_sup_pa: x[L2_SUP],
+        l2_dev_pa: x[L2_DEV],
         guest_image_pa: (x[IMAGE_PRESENT] != 0).then_some(x[IMAGE]),
         data_ipa_base: x[DATA_IPA],
         data_pa_base: x[DATA_PA],

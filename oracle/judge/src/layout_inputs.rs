@@ -77,7 +77,7 @@ pub fn examples() -> impl Iterator<Item = Fields> {
         assert_eq!(
             validate(&x)[0],
             row,
-            "document 01 says of which row {changes:x?} is"
+            "document 01 gives the row of {changes:x?}"
         );
         x
     })
@@ -197,7 +197,8 @@ fn gigabyte(random: &mut Random, slot: u64) -> u64 {
 
 /// An aligned address in a gigabyte such that the span fits, often at one of its ends.
 fn placed(random: &mut Random, gigabyte: u64, span: u64, align: u64) -> u64 {
-    let last = (L1_SPAN - span) / align;
+    // An address of no span is in the gigabyte too.
+    let last = (L1_SPAN - span.max(align)) / align;
     let place = match random.below(4) {
         0 => 0,
         1 => last,
@@ -209,11 +210,11 @@ fn placed(random: &mut Random, gigabyte: u64, span: u64, align: u64) -> u64 {
 /// A layout in so little room that its windows often meet.
 fn crowded(random: &mut Random) -> Fields {
     let mut x = [0; 17];
-    for field in 0..x.len() {
-        x[field] = random.below(3) * L1_SPAN + random.below(3) * BLOCK;
+    for field in &mut x {
+        *field = random.below(3) * L1_SPAN + random.below(3) * BLOCK;
     }
-    for field in TABLES {
-        x[field] = random.below(16) * PAGE;
+    for table in &mut x[TABLES] {
+        *table = random.below(16) * PAGE;
     }
     x[DATA_PA] += random.below(3) * PAGE;
     x[FRAME_SIZE] = PAGE;

@@ -1,8 +1,8 @@
 -- `print_line` is safe and ends.
 use Prim.Native.Nat.{_≤_, _-_}
 use borrow.Author.Needs.{needs}
-use Rattle.replay.proofs.print_line.Statement.{statement}
-use Rattle.replay.proofs.print_line.Tie as tie
+use Rattle.lines.proofs.print_line.Statement.{statement}
+use Rattle.lines.proofs.print_line.Tie as tie
 
 abbrev Inv-loop : tie.InvT-loop
 Inv-loop out i₀ t4 t5 i = i ≤ 7

@@ -1,23 +1,20 @@
--- `number_at` is safe and ends: the number keeps 60 bits before each digit.
+-- `number` is safe and ends: the number keeps 60 bits before each digit.
 use Prim.Native.Nat.{_≤_, _-_}
 use borrow.Author.Needs.{needs}
-use Rattle.replay.proofs.number_at.Statement.{statement}
-use Rattle.replay.proofs.number_at.Tie as tie
+use Rattle.lines.proofs.number.Statement.{statement}
+use Rattle.lines.proofs.number.Tie as tie
 
 abbrev Inv-loop : tie.InvT-loop
-Inv-loop line at n₀ i₀ n i = i ≤ 16
+Inv-loop text n₀ i₀ n i = i ≤ 16
 
 abbrev μ-loop : tie.MeasureT-loop
-μ-loop line at n₀ i₀ n i = 16 - i
+μ-loop text n₀ i₀ n i = 16 - i
 
 loop-holds : tie.Need-loop-holds Inv-loop μ-loop
 loop-holds c = search needs
 
 mul-n : tie.Need-mul-n Inv-loop μ-loop
 mul-n c = search needs
-
-add-digit : tie.Need-add-digit Inv-loop μ-loop
-add-digit c = search needs
 
 element-copy-out-digit : tie.Need-element-copy-out-digit Inv-loop μ-loop
 element-copy-out-digit c = search needs
@@ -40,15 +37,14 @@ loop-again c = search needs
 returns : tie.Need-returns Inv-loop μ-loop
 returns c = search needs
 
-pub number-at-spec : {M : Type 1} → statement M
-number-at-spec =
+pub number-spec : {M : Type 1} → statement M
+number-spec =
     tie.close
     (tie.spec
     Inv-loop
     μ-loop
     loop-holds
     mul-n
-    add-digit
     element-copy-out-digit
     digit-requires
     add-n

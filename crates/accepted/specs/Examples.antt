@@ -1,0 +1,72 @@
+-- The examples of document 01's rows 1 to 14, its accepted edges, and the super of no frames inside data's output range.
+use Prim.Native.Nat.{ℕ, _-_, _*_, _^_}
+use mathlib.Core.List.{List, [], _∷_}
+use mathlib.Core.Path.{_≡_}
+use lib.ListN.{replicate, set}
+use Rattle.guard.specs.Rows.{arenaGuardRows}
+use Rattle.layout.specs.Layout.{layoutOf}
+use Rattle.layout.specs.Size.{block, outputLimit}
+use Rattle.layout.specs.declared.Layout.{Layout}
+use Rattle.refusal.specs.Outcome.{row}
+use Rattle.refusal.specs.Table.{Outcome, accepted, refused, first}
+use Rattle.validate.specs.Rows.{refusals}
+
+-- S, by its lines: fields 1 to 10, and no image
+abbrev pub sceneS : List ℕ
+sceneS =
+    0x4000_0000
+    ∷ 0x4000_1000
+    ∷ 0x4000_2000
+    ∷ 0x4000_3000
+    ∷ 0x4000_4000
+    ∷ 0x4000_5000
+    ∷ 0
+    ∷ 0x8000_0000
+    ∷ 0x5000_0000
+    ∷ 0x1000
+    ∷ 0xC000_0000
+    ∷ 0x6000_0000
+    ∷ 0x900_0000
+    ∷ 0x20_0000
+    ∷ 0
+    ∷ 4
+    ∷ 0
+    ∷ []
+
+-- S with another value in a field, by its number
+abbrev pub line : ℕ → ℕ → List ℕ → List ℕ
+line n v x = set x (n - 1) v
+
+abbrev pub baseS : List ℕ
+baseS = 0 ∷ 2 ∷ []
+
+abbrev pub supS : List ℕ
+supS = 0 ∷ 0 ∷ 3 ∷ []
+
+abbrev pub validated : List ℕ → Outcome
+validated x = first (refusals (layoutOf x))
+
+abbrev pub guarded : ℕ → List ℕ → List ℕ → List ℕ → Outcome
+guarded words base sup x = first (arenaGuardRows outputLimit (replicate words 0) base sup (layoutOf x))
+
+pub record Examples : Type 0 where
+  pub S : guarded 3072 baseS supS sceneS ≡ accepted
+  pub row1 : guarded 3071 baseS supS sceneS ≡ refused (row 1 [])
+  pub row2 : guarded 3072 (replicate 513 0) supS sceneS ≡ refused (row 2 [])
+  pub row3 : guarded 3072 (0 ∷ 4 ∷ []) supS sceneS ≡ refused (row 3 (1 ∷ 1 ∷ []))
+  pub row4 : validated (line 0xE 4096 sceneS) ≡ refused (row 4 (0x900_0000 ∷ 4096 ∷ []))
+  pub row5 : validated (line 0xA 16384 sceneS) ≡ refused (row 5 (16384 ∷ []))
+  pub row6 : validated (line 0xC 0x6000_1000 sceneS) ≡ refused (row 6 (4 ∷ 0x6000_1000 ∷ block ∷ []))
+  pub row7 : validated (line 1 (2 ^ 48) sceneS) ≡ refused (row 7 (1 ∷ 2 ^ 48 ∷ []))
+  pub row8 : validated (line 0x10 (2 ^ 43) sceneS) ≡ refused (row 8 (2 ^ 43 ∷ []))
+  pub row9 : validated (line 0x10 513 sceneS) ≡ refused (row 9 (3 ∷ 513 * block ∷ []))
+  pub row10 : validated (line 9 (2 ^ 48 - 4096) sceneS) ≡ refused (row 10 (2 ∷ (2 ^ 48 - 4096) ∷ []))
+  pub row11 : validated (line 0xB 0x8020_0000 sceneS) ≡ refused (row 11 (2 ∷ []))
+  pub row12 : validated (line 0xC 0x5000_0000 sceneS) ≡ refused (row 12 [])
+  pub row13 : guarded 3072 baseS supS (line 6 0x4000_0000 sceneS) ≡ refused (row 13 (1 ∷ 6 ∷ []))
+  pub row14 : guarded 3072 baseS (0 ∷ 0 ∷ 3 ∷ 0 ∷ 1 ∷ []) sceneS ≡ refused (row 14 (4 ∷ []))
+  pub frames512 : validated (line 0x10 512 sceneS) ≡ accepted
+  pub last-output : validated (line 9 (2 ^ 48 - block) sceneS) ≡ accepted
+  pub no-frames : validated (line 0x10 0 (line 0xC 0x5000_0000 sceneS)) ≡ accepted
+  pub no-frames-inside :
+      validated (line 0x10 0 (line 0xC 0x5020_0000 (line 9 0x5000_1000 sceneS))) ≡ refused (row 12 [])

@@ -1,0 +1,57 @@
+// The lines of a record: numbers of 16 lower-case hexadecimal digits, one byte after each.
+use libc::STDIN_FILENO;
+use libc::STDOUT_FILENO;
+ghost use Prim.Native.Nat.{_<_};
+
+pub enum Read {
+    Number(u64),
+    End,
+}
+
+pub fn read_number() -> Read {
+    let mut text = [0u8; 17];
+    if io::read_full(STDIN_FILENO, &mut text) < 17 {
+        return Read::End;
+    }
+    Read::Number(number(&text))
+}
+
+fn number(text: &[u8; 17]) -> u64 {
+    let mut n = 0;
+    for i in 0..16 {
+        n = n % 0x1000_0000_0000_0000 * 16 + digit(text[i]);
+    }
+    n
+}
+
+fn digit(c: u8) -> u64
+    ensures { λ r. ⌜ r < 16 ⌝ }
+{
+    if c < b'0' {
+        return 0;
+    }
+    if c <= b'9' {
+        return (c - b'0') as u64;
+    }
+    if c < b'a' {
+        return 0;
+    }
+    if c <= b'f' {
+        return (c - b'a' + 10) as u64;
+    }
+    0
+}
+
+// Whether it was written.
+pub fn print_line(out: [u64; 8]) -> bool {
+    for i in 0..7 {
+        if !print_number(out[i], b" ") {
+            return false;
+        }
+    }
+    print_number(out[7], b"\n")
+}
+
+fn print_number(n: u64, end: &[u8; 1]) -> bool {
+    io::print_hex(STDOUT_FILENO, n, 16) && io::write_all(STDOUT_FILENO, end)
+}
