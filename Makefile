@@ -7,7 +7,7 @@ export HV_SRC ?= ../shared/docs/src
 
 JUDGE = cargo run --quiet --release --offline --manifest-path oracle/Cargo.toml -p judge --
 
-.PHONY: run test fmt compare compare-long record target/staticlib/libprobe.a
+.PHONY: run test fmt compare compare-long record libraries
 
 run:
 	@mkdir -p target
@@ -26,19 +26,20 @@ fmt:
 # The port beside the Rust. Without the originals, rt ci still replays their recorded answers.
 compare:
 	@if [ -d "$(HV_SRC)/hv-s2" ]; then \
-	    $(MAKE) --no-print-directory target/staticlib/libprobe.a && \
-	    $(JUDGE) compare && $(JUDGE) self-test && $(JUDGE) check-record crates/replay; \
+	    $(MAKE) --no-print-directory libraries && \
+	    $(JUDGE) compare && $(JUDGE) self-test && $(JUDGE) check-record crates; \
 	else \
 	    echo "no Rust originals in $(HV_SRC): the comparison was not run"; \
 	fi
 
-compare-long: target/staticlib/libprobe.a
+compare-long: libraries
 	@$(JUDGE) compare --long
 
-# The Rust's answers that the program replay must print.
-record: target/staticlib/libprobe.a
-	@$(JUDGE) record crates/replay
+# The Rust's answers that the programs replay and replay_layouts must print.
+record: libraries
+	@$(JUDGE) record crates
 
-target/staticlib/libprobe.a:
+libraries:
 	@mkdir -p target
-	@{ rt check probe && rt staticlib probe; } >target/staticlib.log 2>&1 || { cat target/staticlib.log; exit 1; }
+	@{ rt check probe probe_layouts && rt staticlib probe && rt staticlib probe_layouts; } \
+	    >target/staticlib.log 2>&1 || { cat target/staticlib.log; exit 1; }

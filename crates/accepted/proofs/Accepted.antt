@@ -1,25 +1,24 @@
 -- An accepted layout has the facts of every row: where no row applies, each test is false.
 use Prim.Native.Nat.{ℕ, _+_, _%_, _≤_, _<_}
-use mathlib.Core.Bool.{Bool, true, false, not, _&&_, _||_, and-false}
+use mathlib.Core.Bool.{Bool, true, false, _&&_, _||_, and-false}
 use mathlib.Core.List.{List, [], _∷_, _++_, flatMap}
-use mathlib.Core.Logic.{_⊎_, inl, inr}
+use mathlib.Core.Logic.{inl, inr}
 use mathlib.Core.Path.{_≡_, refl, sym}
 use native.Mathlib.Numerals.{lt-of-le-of-ne}
 use native.Mathlib.Omega.{arith}
-use lib.Dec.{eqb, leb, ltb}
+use lib.Dec.{ltb}
 use borrow.Author.Tests.{ltb-true, ltb-false, leb-false, eqb-true, eqb-false, not-false, le-ltb}
-use Rattle.accepted.specs.Accepted.{Nameable, Within, Disjoint, Apart, Accepted, AcceptedFacts, NoInputOverlap}
 use Rattle.layout.specs.Layout.{tablesOf}
-use Rattle.layout.specs.Size.{page, block, l1Span, entries, inputLimit}
+use Rattle.layout.specs.Size.{l1Span, inputLimit}
 use Rattle.layout.specs.Window.{windowsOf, slot}
-use Rattle.layout.specs.declared.Layout.{Layout}
 use Rattle.layout.specs.declared.Table.{Table}
 use Rattle.layout.specs.declared.Window.{Window}
 use Rattle.refusal.proofs.None.{none, both, test, under, each-none, pairs-none}
 use Rattle.refusal.specs.All.{All, AllPairs}
-use Rattle.refusal.specs.Table.{Row, accepted, first, given, refuseIf, each, pairs}
+use Rattle.refusal.specs.Table.{each, pairs}
 use Rattle.validate.specs.Rows.{unaligned, check, checksOf, row4, row5, row6, row7, row8, refusalsAt}
 use Rattle.windows.specs.Rows.{overlap, row9, row10, row11, row12, pairRows, windowRows}
+use Rattle.accepted.specs.Accepted.{Nameable, Within, Disjoint, Apart, AcceptedFacts, NoInputOverlap}
 
 neither : (a b : Bool) → (a || b) ≡ false → (a ≡ false) × (b ≡ false)
 neither true b e = absurd (let z : _≡_ {A = ℕ} 0 1 = cc in omega arith)

@@ -1,21 +1,21 @@
 -- Where encoding or an update is let by, maps, tables and supers have the facts of rows 1 to 14.
-use Prim.Native.Nat.{ℕ, _≤_, _<_}
-use mathlib.Core.Bool.{true, false, not, _&&_}
+use Prim.Native.Nat.{ℕ, _<_}
+use mathlib.Core.Bool.{false, not, _&&_}
 use mathlib.Core.List.{List, [], _∷_, flatMap}
-use mathlib.Core.Path.{_≡_, sym}
+use mathlib.Core.Path.{_≡_}
 use lib.Dec.{eqb, leb}
 use lib.ListN.{length, getD}
 use borrow.Author.Tests.{ltb-false, leb-false, eqb-true, eqb-false, ne-eqb, not-false}
-use Rattle.accepted.proofs.Accepted.{accepted-facts}
-use Rattle.accepted.specs.Guarded.{Readable, Guarded, GuardedFacts, ArenaGuardedFacts}
 use Rattle.guard.specs.Rows.{row13, row14, guardRows, arenaGuardRows}
 use Rattle.layout.specs.Layout.{tablesOf}
 use Rattle.layout.specs.declared.Table.{Table}
 use Rattle.lent.specs.Rows.{row1, row2, row3, lengthRows, mapRows}
 use Rattle.refusal.proofs.None.{none, accept, both, test, pairs-none, from-none}
 use Rattle.refusal.specs.All.{All, AllPairs}
-use Rattle.refusal.specs.Table.{accepted, first, eachFrom, pairs}
+use Rattle.refusal.specs.Table.{eachFrom, pairs}
 use Rattle.validate.specs.Rows.{refusalsAt}
+use Rattle.accepted.specs.Guarded.{Readable, GuardedFacts, ArenaGuardedFacts}
+use Rattle.accepted.proofs.Accepted.{accepted-facts}
 
 readable : (code : ℕ) (map : List ℕ) → row2 map ≡ [] → eachFrom (row3 code) 0 map ≡ [] → Readable map
 unfolding row2 row3

@@ -6,7 +6,6 @@ use lib.ListN.{replicate, set}
 use Rattle.guard.specs.Rows.{arenaGuardRows}
 use Rattle.layout.specs.Layout.{layoutOf}
 use Rattle.layout.specs.Size.{block, outputLimit}
-use Rattle.layout.specs.declared.Layout.{Layout}
 use Rattle.refusal.specs.Outcome.{row}
 use Rattle.refusal.specs.Table.{Outcome, accepted, refused, first}
 use Rattle.validate.specs.Rows.{refusals}

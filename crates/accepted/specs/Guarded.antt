@@ -3,13 +3,13 @@ use Prim.Native.Nat.{ℕ, _≤_, _<_}
 use mathlib.Core.List.{List}
 use mathlib.Core.Path.{_≡_}
 use lib.ListN.{length, getD}
-use Rattle.accepted.specs.Accepted.{Accepted}
 use Rattle.guard.specs.Rows.{guardRows, arenaGuardRows}
 use Rattle.layout.specs.Layout.{tablesOf}
 use Rattle.layout.specs.Size.{entries, arenaLength}
 use Rattle.layout.specs.declared.Layout.{Layout}
 use Rattle.refusal.specs.All.{AllPairs}
 use Rattle.refusal.specs.Table.{accepted, first}
+use Rattle.accepted.specs.Accepted.{Accepted}
 
 -- a map that can be read
 pub record Readable (map : List ℕ) : Type 0 where

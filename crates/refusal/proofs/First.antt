@@ -6,8 +6,8 @@ use native.Mathlib.Omega.{arith}
 use Rattle.refusal.specs.Outcome.{outcomeOf, rowOf}
 use Rattle.refusal.specs.Table.{Row, accepted, refused, first}
 use Rattle.refusal.specs.declared.Refusal.{Refusal}
-use Rattle.refusal.specs.declared.Verdict.the-variants.{Accepted, Refused}
 use Rattle.refusal.specs.declared.Verdict.{Verdict}
+use Rattle.refusal.specs.declared.Verdict.the-variants.{Accepted, Refused}
 
 skip : (xs ys : List Row) → first xs ≡ accepted → first (xs ++ ys) ≡ first ys
 unfolding first

@@ -9,8 +9,8 @@ use Rattle.layout.specs.Window.{imageWindow, deviceWindow, windowsOf}
 use Rattle.layout.specs.declared.Layout.{Layout}
 use Rattle.layout.specs.declared.Table.{Table}
 use Rattle.refusal.specs.Table.{Row, refuseIf, each, table}
-use Rattle.validate.specs.declared.Check.{Check}
 use Rattle.windows.specs.Rows.{windowRows}
+use Rattle.validate.specs.declared.Check.{Check}
 
 -- not k × unit
 abbrev pub unaligned : ℕ → ℕ → Bool

@@ -3,8 +3,8 @@
 use crate::inputs::{altered, random, Random};
 use crate::layout::{
     validate, Fields, BLOCK, DATA_IPA, DATA_PA, DEVICE, DEVICE_LEN, EXEMPT, FRAME_SIZE, IMAGE,
-    IMAGE_PRESENT, INPUT_LIMIT, L1, L1_SPAN, OUTPUT_LIMIT, PAGE, SUP_FRAMES, SUP_FRAMES_LIMIT,
-    SUP_IPA, SUP_PA, TABLES,
+    IMAGE_PRESENT, INPUT_LIMIT, L1, L1_SPAN, L2_CODE, L2_DATA, L2_DEV, L2_SUP, L3_DATA,
+    OUTPUT_LIMIT, PAGE, SUP_FRAMES, SUP_FRAMES_LIMIT, SUP_IPA, SUP_PA, TABLES,
 };
 use crate::layout_edges::{edges, FLAGS};
 
@@ -68,8 +68,26 @@ const EXAMPLES: [(u64, Changes); 19] = [
     (0, &[(IMAGE_PRESENT, 2), (IMAGE, 0x1_4000_0000)]),
 ];
 
+/// One for each other check, table and window that a refusal tells of.
+const TOLD: [(u64, Changes); 14] = [
+    (6, &[(DATA_IPA, 0x8000_1000)]),
+    (6, &[(DATA_PA, 0x5000_0001)]),
+    (6, &[(SUP_IPA, 0xc010_0000)]),
+    (6, &[(IMAGE_PRESENT, 1), (IMAGE, 0x1_4010_0000)]),
+    (6, &[(DEVICE, 0x900_1000)]),
+    (7, &[(L2_CODE, 0x4000_1001)]),
+    (7, &[(L2_DATA, 0x4000_2800)]),
+    (7, &[(L3_DATA, OUTPUT_LIMIT + PAGE)]),
+    (7, &[(L2_SUP, 1 << 63)]),
+    (7, &[(L2_DEV, u64::MAX)]),
+    (9, &[(IMAGE_PRESENT, 1), (IMAGE, INPUT_LIMIT)]),
+    (9, &[(DATA_IPA, INPUT_LIMIT)]),
+    (9, &[(DEVICE, INPUT_LIMIT)]),
+    (10, &[(SUP_PA, OUTPUT_LIMIT - BLOCK)]),
+];
+
 pub fn examples() -> impl Iterator<Item = Fields> {
-    EXAMPLES.into_iter().map(|(row, changes)| {
+    EXAMPLES.into_iter().chain(TOLD).map(|(row, changes)| {
         let mut x = SCENE;
         for (field, value) in changes {
             x[*field] = *value;

@@ -50,7 +50,7 @@ pub fn check(folder: &str) -> Result<(), String> {
 fn records() -> Result<[Record; 2], String> {
     let mut replay = Record::new("replay");
     for function in functions(&WORDS).filter(|function| function.recorded) {
-        let line = |input: &Words| format!("{:02x} {}", function.op, digits(input));
+        let line = |input: &Words| format!("{:016x} {}", function.op, digits(input));
         replay.add(function, selection(function), line)?;
     }
     let mut layouts = Record::new("replay_layouts");

@@ -1,15 +1,15 @@
 -- `all_distinct` meets its contract: the first row is that of the pairs from i on.
-use Rattle.guard.proofs.all_distinct.Statement.{statement}
-use Rattle.guard.proofs.all_distinct.Tie as tie
 use Prim.Native.Nat.{_≤_, _<_, _-_}
 use mathlib.Core.Path.{_≡_, refl, sym, _∙_}
 use native.Mathlib.Omega.{arith}
 use lib.ListN.{length, drop}
 use borrow.Author.Needs.{needs}
-use Rattle.refusal.specs.Table.{first, pairs}
 use Rattle.refusal.proofs.First.{next, stop}
 use Rattle.refusal.proofs.Parts.{pairs-at, pairs-end}
+use Rattle.refusal.specs.Table.{first, pairs}
 use Rattle.guard.specs.Rows.{row13}
+use Rattle.guard.proofs.all_distinct.Statement.{statement}
+use Rattle.guard.proofs.all_distinct.Tie as tie
 
 abbrev Inv-loop : tie.InvT-loop
 Inv-loop ts i₀ i = first (pairs row13 ts) ≡ first (pairs row13 (drop i ts))

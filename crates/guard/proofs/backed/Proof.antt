@@ -1,17 +1,15 @@
 -- `backed` meets its contract: the first row is that of the supers from i on.
-use Rattle.guard.proofs.backed.Statement.{statement}
-use Rattle.guard.proofs.backed.Tie as tie
-use Rattle.guard.proofs.backed.Reads as reads
-use Rattle.guard.proofs.backed.Lts as lts
 use Prim.Native.Nat.{_-_}
 use mathlib.Core.Logic.{⊎-elim}
 use mathlib.Core.Path.{_≡_, refl, sym, _∙_}
 use lib.ListN.{drop}
 use borrow.Author.Needs.{needs}
 use borrow.Author.Tests.{eq-eqb, ne-eqb, le-leb, lt-leb}
-use Rattle.refusal.specs.Table.{first, eachFrom}
 use Rattle.refusal.proofs.Parts.{from-at, from-end}
+use Rattle.refusal.specs.Table.{first, eachFrom}
 use Rattle.guard.specs.Rows.{row14}
+use Rattle.guard.proofs.backed.Statement.{statement}
+use Rattle.guard.proofs.backed.Tie as tie
 
 abbrev Inv-loop : tie.InvT-loop
 Inv-loop sup-frames sup i₀ i-end i = first (eachFrom (row14 sup-frames) 0 sup) ≡ first (eachFrom (row14 sup-frames) i (drop i sup))

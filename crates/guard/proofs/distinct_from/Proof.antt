@@ -1,18 +1,16 @@
 -- `distinct_from` meets its contract: the first row is that of the tables from i on.
-use Rattle.guard.proofs.distinct_from.Statement.{statement}
-use Rattle.guard.proofs.distinct_from.Tie as tie
-use Rattle.guard.proofs.distinct_from.Reads as reads
-use Rattle.guard.proofs.distinct_from.Lts as lts
 use Prim.Native.Nat.{_≤_, _<_, _-_}
 use mathlib.Core.Path.{_≡_, refl, sym, _∙_}
 use native.Mathlib.Omega.{arith}
 use lib.ListN.{length, drop}
 use borrow.Author.Needs.{needs}
 use borrow.Author.Tests.{eq-eqb, ne-eqb}
-use Rattle.refusal.specs.Table.{first, each}
-use Rattle.refusal.proofs.Parts.{each-at, each-end}
-use Rattle.guard.specs.Rows.{row13}
 use Rattle.layout.specs.Layout.{tableAt}
+use Rattle.refusal.proofs.Parts.{each-at, each-end}
+use Rattle.refusal.specs.Table.{first, each}
+use Rattle.guard.specs.Rows.{row13}
+use Rattle.guard.proofs.distinct_from.Statement.{statement}
+use Rattle.guard.proofs.distinct_from.Tie as tie
 
 abbrev Inv-loop : tie.InvT-loop
 Inv-loop t from ts i₀ i = first (each (row13 t) (drop from ts)) ≡ first (each (row13 t) (drop i ts))

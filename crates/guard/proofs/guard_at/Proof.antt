@@ -1,15 +1,11 @@
 -- `guard_at` meets its contract: the arena's length comes first.
-use borrow.Author.Needs.{needs}
-use Rattle.guard.proofs.guard_at.Statement.{statement}
-use Rattle.guard.proofs.guard_at.Tie as tie
-use Rattle.guard.proofs.guard_at.Reads as reads
-use Rattle.guard.proofs.guard_at.Lts as lts
-use Rattle.guard.proofs.guard_maps_at.Reads as guard-maps-at-reads
-use Rattle.lent.proofs.arena_len.Reads as arena-len-reads
 use mathlib.Core.List.{flatMap}
 use mathlib.Core.Path.{_∙_, refl, sym}
+use borrow.Author.Needs.{needs}
 use Rattle.refusal.proofs.First.{next, stop, last}
 use Rattle.guard.specs.Rows.{arenaGuardRows}
+use Rattle.guard.proofs.guard_at.Statement.{statement}
+use Rattle.guard.proofs.guard_at.Tie as tie
 
 arena-len-requires : tie.Need-arena-len-requires
 arena-len-requires c κs = search needs

@@ -1,19 +1,12 @@
 -- `guard_maps_at` meets its contract: an accepting check is passed over, a refusing one decides.
-use borrow.Author.Needs.{needs}
-use Rattle.guard.proofs.guard_maps_at.Statement.{statement}
-use Rattle.guard.proofs.guard_maps_at.Tie as tie
-use Rattle.guard.proofs.guard_maps_at.Reads as reads
-use Rattle.guard.proofs.guard_maps_at.Lts as lts
-use Rattle.guard.proofs.all_distinct.Reads as all-distinct-reads
-use Rattle.guard.proofs.backed.Reads as backed-reads
-use Rattle.layout.proofs.Layout.tables.Reads as tables-reads
-use Rattle.lent.proofs.maps.Reads as maps-reads
-use Rattle.validate.proofs.validate_at.Reads as validate-at-reads
 use mathlib.Core.List.{flatMap}
 use mathlib.Core.Path.{_∙_, refl, sym, ap}
+use borrow.Author.Needs.{needs}
 use Rattle.refusal.proofs.First.{next, stop, last}
 use Rattle.refusal.specs.Table.{first, pairs}
 use Rattle.guard.specs.Rows.{row13, guardRows}
+use Rattle.guard.proofs.guard_maps_at.Statement.{statement}
+use Rattle.guard.proofs.guard_maps_at.Tie as tie
 
 maps-requires : tie.Need-maps-requires
 maps-requires c κs = search needs

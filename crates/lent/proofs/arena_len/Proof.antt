@@ -1,9 +1,9 @@
 -- `arena_len` meets its contract: the branch is the row's test.
-use Rattle.lent.proofs.arena_len.Statement.{statement}
-use Rattle.lent.proofs.arena_len.Tie as tie
 use borrow.Author.Tests.{eq-eqb, ne-eqb}
 use Rattle.refusal.specs.Table.{first}
 use Rattle.lent.specs.Rows.{row1}
+use Rattle.lent.proofs.arena_len.Statement.{statement}
+use Rattle.lent.proofs.arena_len.Tie as tie
 
 returns : tie.Need-returns
 unfolding row1 first

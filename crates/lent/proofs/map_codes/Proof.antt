@@ -1,16 +1,14 @@
 -- `map_codes` meets its contract: the first row is that of the bytes from i on.
-use Rattle.lent.proofs.map_codes.Statement.{statement}
-use Rattle.lent.proofs.map_codes.Tie as tie
-use Rattle.lent.proofs.map_codes.Reads as reads
-use Rattle.lent.proofs.map_codes.Lts as lts
 use Prim.Native.Nat.{_-_}
 use mathlib.Core.Path.{_≡_, refl, sym, _∙_}
 use lib.ListN.{drop}
 use borrow.Author.Needs.{needs}
-use Rattle.refusal.specs.Table.{first, eachFrom}
-use Rattle.refusal.proofs.Parts.{from-at, from-end}
-use Rattle.lent.specs.Rows.{row3}
 use borrow.Author.Tests.{lt-ltb, le-ltb}
+use Rattle.refusal.proofs.Parts.{from-at, from-end}
+use Rattle.refusal.specs.Table.{first, eachFrom}
+use Rattle.lent.specs.Rows.{row3}
+use Rattle.lent.proofs.map_codes.Statement.{statement}
+use Rattle.lent.proofs.map_codes.Tie as tie
 
 abbrev Inv-loop : tie.InvT-loop
 Inv-loop code map i₀ i-end i = first (eachFrom (row3 code) 0 map) ≡ first (eachFrom (row3 code) i (drop i map))

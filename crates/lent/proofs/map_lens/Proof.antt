@@ -1,14 +1,11 @@
 -- `map_lens` meets its contract: base before super.
-use borrow.Author.Needs.{needs}
-use Rattle.lent.proofs.map_lens.Statement.{statement}
-use Rattle.lent.proofs.map_lens.Tie as tie
-use Rattle.lent.proofs.map_lens.Reads as reads
-use Rattle.lent.proofs.map_lens.Lts as lts
-use Rattle.lent.proofs.map_len.Reads as map-len-reads
 use mathlib.Core.List.{flatMap}
 use mathlib.Core.Path.{_∙_, refl, sym}
+use borrow.Author.Needs.{needs}
 use Rattle.refusal.proofs.First.{next, stop, last}
 use Rattle.lent.specs.Rows.{lengthRows}
+use Rattle.lent.proofs.map_lens.Statement.{statement}
+use Rattle.lent.proofs.map_lens.Tie as tie
 
 map-len-requires : tie.Need-map-len-requires
 map-len-requires c κs = search needs

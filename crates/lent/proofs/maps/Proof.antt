@@ -1,15 +1,11 @@
 -- `maps` meets its contract: lengths before bytes, base before super.
-use borrow.Author.Needs.{needs}
-use Rattle.lent.proofs.maps.Statement.{statement}
-use Rattle.lent.proofs.maps.Tie as tie
-use Rattle.lent.proofs.maps.Reads as reads
-use Rattle.lent.proofs.maps.Lts as lts
-use Rattle.lent.proofs.map_codes.Reads as map-codes-reads
-use Rattle.lent.proofs.map_lens.Reads as map-lens-reads
 use mathlib.Core.List.{flatMap}
 use mathlib.Core.Path.{_∙_, refl, sym}
+use borrow.Author.Needs.{needs}
 use Rattle.refusal.proofs.First.{next, stop, last}
 use Rattle.lent.specs.Rows.{mapRows}
+use Rattle.lent.proofs.maps.Statement.{statement}
+use Rattle.lent.proofs.maps.Tie as tie
 
 map-lens-requires : tie.Need-map-lens-requires
 map-lens-requires c κs = search needs

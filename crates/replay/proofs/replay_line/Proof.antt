@@ -1,8 +1,8 @@
 -- `replay_line` is safe and ends: a line has a function's number and 8 others.
-use Rattle.replay.proofs.replay_line.Statement.{statement}
-use Rattle.replay.proofs.replay_line.Tie as tie
 use Prim.Native.Nat.{_≤_, _-_}
 use borrow.Author.Needs.{needs}
+use Rattle.replay.proofs.replay_line.Statement.{statement}
+use Rattle.replay.proofs.replay_line.Tie as tie
 
 abbrev Inv-loop : tie.InvT-loop
 Inv-loop op x₀ i₀ x i = i ≤ 8

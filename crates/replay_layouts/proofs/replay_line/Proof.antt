@@ -1,8 +1,8 @@
 -- `replay_line` is safe and ends: a line has 17 numbers.
-use Rattle.replay_layouts.proofs.replay_line.Statement.{statement}
-use Rattle.replay_layouts.proofs.replay_line.Tie as tie
 use Prim.Native.Nat.{_≤_, _-_}
 use borrow.Author.Needs.{needs}
+use Rattle.replay_layouts.proofs.replay_line.Statement.{statement}
+use Rattle.replay_layouts.proofs.replay_line.Tie as tie
 
 abbrev Inv-loop : tie.InvT-loop
 Inv-loop x₀ i₀ x i = i ≤ 17

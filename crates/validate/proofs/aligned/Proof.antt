@@ -1,8 +1,8 @@
 -- `aligned` meets its contract: the branch is the row's test.
-use Rattle.validate.proofs.aligned.Statement.{statement}
-use Rattle.validate.proofs.aligned.Tie as tie
 use Rattle.refusal.specs.Table.{first}
 use Rattle.validate.specs.Rows.{row6}
+use Rattle.validate.proofs.aligned.Statement.{statement}
+use Rattle.validate.proofs.aligned.Tie as tie
 
 returns : tie.Need-returns
 unfolding row6 first

@@ -1,15 +1,15 @@
 -- `all_aligned` meets its contract: the first row is that of the checks from i on.
-use Rattle.validate.proofs.all_aligned.Statement.{statement}
-use Rattle.validate.proofs.all_aligned.Tie as tie
 use Prim.Native.Nat.{_≤_, _<_, _-_}
 use mathlib.Core.Path.{_≡_, refl, sym, _∙_}
 use native.Mathlib.Omega.{arith}
 use lib.ListN.{length, drop}
 use borrow.Author.Needs.{needs}
-use Rattle.refusal.specs.Table.{first, each}
 use Rattle.refusal.proofs.First.{next, stop}
 use Rattle.refusal.proofs.Parts.{each-at, each-end}
+use Rattle.refusal.specs.Table.{first, each}
 use Rattle.validate.specs.Rows.{row6}
+use Rattle.validate.proofs.all_aligned.Statement.{statement}
+use Rattle.validate.proofs.all_aligned.Tie as tie
 
 abbrev Inv-loop : tie.InvT-loop
 Inv-loop cs i₀ i = first (each row6 cs) ≡ first (each row6 (drop i cs))

@@ -2,11 +2,6 @@
 use borrow.Author.Needs.{needs}
 use Rattle.validate.proofs.checks.Statement.{statement}
 use Rattle.validate.proofs.checks.Tie as tie
-use Rattle.validate.proofs.checks.Reads as reads
-use Rattle.validate.proofs.checks.Lts as lts
-use Rattle.layout.proofs.GuestImage.window.Reads as window-reads
-use Rattle.layout.proofs.Layout.device_window.Reads as device-window-reads
-use Rattle.validate.proofs.Check.of.Reads as of-reads
 
 window-requires : tie.Need-window-requires
 window-requires c κs = search needs

@@ -1,11 +1,9 @@
 -- `nameable` meets its contract: each return has the row's tests behind it.
-use Rattle.validate.proofs.nameable.Statement.{statement}
-use Rattle.validate.proofs.nameable.Tie as tie
-use Rattle.validate.proofs.nameable.Reads as reads
-use Rattle.validate.proofs.nameable.Lts as lts
 use borrow.Author.Tests.{le-leb, lt-leb, eq-eqb, ne-eqb}
 use Rattle.refusal.specs.Table.{first}
 use Rattle.validate.specs.Rows.{row7}
+use Rattle.validate.proofs.nameable.Statement.{statement}
+use Rattle.validate.proofs.nameable.Tie as tie
 
 returns : tie.Need-returns
 unfolding row7 first

@@ -1,26 +1,18 @@
 -- `validate_at` meets its contract: an accepting row is passed over, a refusing one decides.
-use borrow.Author.Needs.{needs}
-use Rattle.validate.proofs.validate_at.Statement.{statement}
-use Rattle.validate.proofs.validate_at.Tie as tie
-use Rattle.validate.proofs.validate_at.Reads as reads
-use Rattle.validate.proofs.validate_at.Lts as lts
-use Rattle.layout.proofs.Layout.tables.Reads as tables-reads
-use Rattle.validate.proofs.all_aligned.Reads as all-aligned-reads
-use Rattle.validate.proofs.all_nameable.Reads as all-nameable-reads
-use Rattle.validate.proofs.checks.Reads as checks-reads
-use Rattle.validate.proofs.windows_of.Reads as windows-of-reads
-use Rattle.windows.proofs.windows.Reads as windows-reads
+use Prim.Native.Nat.{ℕ}
 use mathlib.Core.List.{List, [], _∷_, flatMap}
 use mathlib.Core.Path.{_≡_, _∙_, refl, sym, ap}
-use Prim.Native.Nat.{ℕ}
-use Rattle.refusal.proofs.First.{next, stop, last}
+use borrow.Author.Needs.{needs}
 use borrow.Author.Tests.{eq-eqb, ne-eqb, le-leb, lt-leb}
-use Rattle.refusal.specs.Table.{Row, first, each, table}
 use Rattle.layout.specs.Layout.{tablesOf}
 use Rattle.layout.specs.Window.{windowsOf}
 use Rattle.layout.specs.declared.Layout.{Layout}
+use Rattle.refusal.proofs.First.{next, stop, last}
+use Rattle.refusal.specs.Table.{Row, first, each, table}
 use Rattle.windows.specs.Rows.{windowRows}
 use Rattle.validate.specs.Rows.{checksOf, row4, row5, row6, row7, row8, refusalsAt}
+use Rattle.validate.proofs.validate_at.Statement.{statement}
+use Rattle.validate.proofs.validate_at.Tie as tie
 
 -- the rows that are left, and what is passed when a place is reached
 

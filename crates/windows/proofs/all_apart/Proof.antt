@@ -1,15 +1,15 @@
 -- `all_apart` meets its contract: the first row is that of the pairs from i on.
-use Rattle.windows.proofs.all_apart.Statement.{statement}
-use Rattle.windows.proofs.all_apart.Tie as tie
 use Prim.Native.Nat.{_≤_, _<_, _-_}
 use mathlib.Core.Path.{_≡_, refl, sym, _∙_}
 use native.Mathlib.Omega.{arith}
 use lib.ListN.{length, drop}
 use borrow.Author.Needs.{needs}
-use Rattle.refusal.specs.Table.{first, pairs}
 use Rattle.refusal.proofs.First.{next, stop}
 use Rattle.refusal.proofs.Parts.{pairs-at, pairs-end}
+use Rattle.refusal.specs.Table.{first, pairs}
 use Rattle.windows.specs.Rows.{pairRows}
+use Rattle.windows.proofs.all_apart.Statement.{statement}
+use Rattle.windows.proofs.all_apart.Tie as tie
 
 abbrev Inv-loop : tie.InvT-loop
 Inv-loop ws i₀ i = first (pairs pairRows ws) ≡ first (pairs pairRows (drop i ws))

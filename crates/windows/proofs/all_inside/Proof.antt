@@ -1,15 +1,15 @@
 -- `all_inside` meets its contract: the first row is that of the windows from i on.
-use Rattle.windows.proofs.all_inside.Statement.{statement}
-use Rattle.windows.proofs.all_inside.Tie as tie
 use Prim.Native.Nat.{_≤_, _<_, _-_}
 use mathlib.Core.Path.{_≡_, refl, sym, _∙_}
 use native.Mathlib.Omega.{arith}
 use lib.ListN.{length, drop}
 use borrow.Author.Needs.{needs}
-use Rattle.refusal.specs.Table.{first, each}
 use Rattle.refusal.proofs.First.{next, stop}
 use Rattle.refusal.proofs.Parts.{each-at, each-end}
+use Rattle.refusal.specs.Table.{first, each}
 use Rattle.windows.specs.Rows.{row9}
+use Rattle.windows.proofs.all_inside.Statement.{statement}
+use Rattle.windows.proofs.all_inside.Tie as tie
 
 abbrev Inv-loop : tie.InvT-loop
 Inv-loop ws i₀ i = first (each row9 ws) ≡ first (each row9 (drop i ws))

@@ -1,15 +1,15 @@
 -- `all_reached` meets its contract: the first row is that of the windows from i on.
-use Rattle.windows.proofs.all_reached.Statement.{statement}
-use Rattle.windows.proofs.all_reached.Tie as tie
 use Prim.Native.Nat.{_≤_, _<_, _-_}
 use mathlib.Core.Path.{_≡_, refl, sym, _∙_}
 use native.Mathlib.Omega.{arith}
 use lib.ListN.{length, drop}
 use borrow.Author.Needs.{needs}
-use Rattle.refusal.specs.Table.{first, each}
 use Rattle.refusal.proofs.First.{next, stop}
 use Rattle.refusal.proofs.Parts.{each-at, each-end}
+use Rattle.refusal.specs.Table.{first, each}
 use Rattle.windows.specs.Rows.{row10}
+use Rattle.windows.proofs.all_reached.Statement.{statement}
+use Rattle.windows.proofs.all_reached.Tie as tie
 
 abbrev Inv-loop : tie.InvT-loop
 Inv-loop limit ws i₀ i = first (each (row10 limit) ws) ≡ first (each (row10 limit) (drop i ws))

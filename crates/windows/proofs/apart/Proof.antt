@@ -1,18 +1,14 @@
 -- `apart` meets its contract: each return has the rows' tests behind it.
-use borrow.Author.Needs.{needs}
-use Rattle.windows.proofs.apart.Statement.{statement}
-use Rattle.windows.proofs.apart.Tie as tie
-use Rattle.windows.proofs.apart.Reads as reads
-use Rattle.windows.proofs.apart.Lts as lts
-use Rattle.layout.proofs.Window.l1_index.Reads as l1-index-reads
-use Rattle.windows.proofs.begins_below.Reads as begins-below-reads
-use mathlib.Core.Path.{_≡_, sym, _∙_}
 use mathlib.Core.Bool.{true, false}
+use mathlib.Core.Path.{_≡_, sym, _∙_}
 use lib.Dec.{eqb}
+use borrow.Author.Needs.{needs}
 use borrow.Author.Tests.{not-true, not-false, eq-eqb, ne-eqb}
 use Rattle.layout.specs.Window.{slot}
 use Rattle.refusal.specs.Table.{first}
 use Rattle.windows.specs.Rows.{pairRows}
+use Rattle.windows.proofs.apart.Statement.{statement}
+use Rattle.windows.proofs.apart.Tie as tie
 
 -- both windows are present, in different slots
 

@@ -1,15 +1,15 @@
 -- `apart_from` meets its contract: the first row is that of the windows from i on.
-use Rattle.windows.proofs.apart_from.Statement.{statement}
-use Rattle.windows.proofs.apart_from.Tie as tie
 use Prim.Native.Nat.{_≤_, _<_, _-_}
 use mathlib.Core.Path.{_≡_, refl, sym, _∙_}
 use native.Mathlib.Omega.{arith}
 use lib.ListN.{length, drop}
 use borrow.Author.Needs.{needs}
-use Rattle.refusal.specs.Table.{first, each}
 use Rattle.refusal.proofs.First.{next, stop}
 use Rattle.refusal.proofs.Parts.{each-at, each-end}
+use Rattle.refusal.specs.Table.{first, each}
 use Rattle.windows.specs.Rows.{pairRows}
+use Rattle.windows.proofs.apart_from.Statement.{statement}
+use Rattle.windows.proofs.apart_from.Tie as tie
 
 abbrev Inv-loop : tie.InvT-loop
 Inv-loop w from ws i₀ i = first (each (pairRows w) (drop from ws)) ≡ first (each (pairRows w) (drop i ws))

@@ -1,14 +1,12 @@
 -- `begins_below` meets its contract: the difference is below the length exactly if the sum is above.
+use Prim.Native.Nat.{ℕ, _<_, _≤_, _+_, _-_}
+use mathlib.Core.Bool.{Bool, true, false}
+use mathlib.Core.Path.{_≡_, refl, sym, _∙_}
+use native.Mathlib.Omega.{arith}
+use lib.Dec.{ltb}
+use borrow.Author.Tests.{ltb-true, ltb-false, lt-ltb, le-ltb}
 use Rattle.windows.proofs.begins_below.Statement.{statement}
 use Rattle.windows.proofs.begins_below.Tie as tie
-use Rattle.windows.proofs.begins_below.Reads as reads
-use Rattle.windows.proofs.begins_below.Lts as lts
-use mathlib.Core.Path.{_≡_, refl, sym, _∙_}
-use mathlib.Core.Bool.{Bool, true, false}
-use lib.Dec.{ltb}
-use native.Mathlib.Omega.{arith}
-use borrow.Author.Tests.{ltb-true, ltb-false, lt-ltb, le-ltb}
-use Prim.Native.Nat.{ℕ, _<_, _≤_, _+_, _-_}
 
 same : (x pa span : ℕ) → pa ≤ x → ltb (x - pa) span ≡ ltb x (pa + span)
 same x pa span h = go (ltb (x - pa) span) refl

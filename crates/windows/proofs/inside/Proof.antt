@@ -1,16 +1,13 @@
 -- `inside` meets its contract: each return has the row's tests behind it.
-use borrow.Author.Needs.{needs}
-use Rattle.windows.proofs.inside.Statement.{statement}
-use Rattle.windows.proofs.inside.Tie as tie
-use Rattle.windows.proofs.inside.Reads as reads
-use Rattle.windows.proofs.inside.Lts as lts
-use Rattle.layout.proofs.Window.l1_index.Reads as l1-index-reads
 use Prim.Native.Nat.{_+_, _%_, _≤_, _<_}
 use native.Mathlib.Omega.{arith}
+use borrow.Author.Needs.{needs}
 use borrow.Author.Tests.{not-true, not-false, le-leb, lt-leb, lt-ltb, le-ltb}
 use Rattle.layout.specs.Size.{l1Span}
 use Rattle.refusal.specs.Table.{first}
 use Rattle.windows.specs.Rows.{row9}
+use Rattle.windows.proofs.inside.Statement.{statement}
+use Rattle.windows.proofs.inside.Tie as tie
 
 returns : tie.Need-returns
 unfolding row9 first

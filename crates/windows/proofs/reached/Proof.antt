@@ -1,13 +1,11 @@
 -- `reached` meets its contract: each return has the row's tests behind it.
-use Rattle.windows.proofs.reached.Statement.{statement}
-use Rattle.windows.proofs.reached.Tie as tie
-use Rattle.windows.proofs.reached.Reads as reads
-use Rattle.windows.proofs.reached.Lts as lts
 use Prim.Native.Nat.{_+_, _≤_, _<_}
 use native.Mathlib.Omega.{arith}
 use borrow.Author.Tests.{not-true, not-false, lt-ltb, le-ltb}
 use Rattle.refusal.specs.Table.{first}
 use Rattle.windows.specs.Rows.{row10}
+use Rattle.windows.proofs.reached.Statement.{statement}
+use Rattle.windows.proofs.reached.Tie as tie
 
 returns : tie.Need-returns
 unfolding row10 first

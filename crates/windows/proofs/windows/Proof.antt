@@ -1,16 +1,11 @@
 -- `windows` meets its contract: an accepting check is passed over, a refusing one decides.
-use borrow.Author.Needs.{needs}
-use Rattle.windows.proofs.windows.Statement.{statement}
-use Rattle.windows.proofs.windows.Tie as tie
-use Rattle.windows.proofs.windows.Reads as reads
-use Rattle.windows.proofs.windows.Lts as lts
-use Rattle.windows.proofs.all_apart.Reads as all-apart-reads
-use Rattle.windows.proofs.all_inside.Reads as all-inside-reads
-use Rattle.windows.proofs.all_reached.Reads as all-reached-reads
 use mathlib.Core.List.{flatMap}
 use mathlib.Core.Path.{_∙_, refl, sym}
+use borrow.Author.Needs.{needs}
 use Rattle.refusal.proofs.First.{next, stop, last}
 use Rattle.windows.specs.Rows.{windowRows}
+use Rattle.windows.proofs.windows.Statement.{statement}
+use Rattle.windows.proofs.windows.Tie as tie
 
 all-inside-requires : tie.Need-all-inside-requires
 all-inside-requires c κs = search needs

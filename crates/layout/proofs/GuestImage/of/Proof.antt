@@ -1,7 +1,7 @@
 -- `GuestImage::of` meets its contract: the branch is the definition's test.
+use borrow.Author.Tests.{eq-eqb, ne-eqb}
 use Rattle.layout.proofs.GuestImage.of.Statement.{statement}
 use Rattle.layout.proofs.GuestImage.of.Tie as tie
-use borrow.Author.Tests.{eq-eqb, ne-eqb}
 
 returns : tie.Need-returns
 returns c = simp (eq-eqb _ _ (c .if1 .taken))

@@ -1,9 +1,9 @@
 -- `GuestImage::window` meets its contract: each arm is given the case.
+use mathlib.Core.Path.{sym, ap}
 use borrow.Author.Needs.{needs}
+use Rattle.layout.specs.Window.{imageWindow}
 use Rattle.layout.proofs.GuestImage.window.Statement.{statement}
 use Rattle.layout.proofs.GuestImage.window.Tie as tie
-use mathlib.Core.Path.{sym, ap}
-use Rattle.layout.specs.Window.{imageWindow}
 
 enum-known-self : tie.Need-enum-known-self
 enum-known-self c = search needs

@@ -1,11 +1,8 @@
 -- `Layout::of` meets its contract: each field is the number in its place.
 use borrow.Author.Needs.{needs}
+use Rattle.layout.specs.Layout.{layoutOf}
 use Rattle.layout.proofs.Layout.of.Statement.{statement}
 use Rattle.layout.proofs.Layout.of.Tie as tie
-use Rattle.layout.proofs.Layout.of.Reads as reads
-use Rattle.layout.proofs.Layout.of.Lts as lts
-use Rattle.layout.proofs.GuestImage.of.Reads as of-reads
-use Rattle.layout.specs.Layout.{layoutOf}
 
 element-copy-out-of : tie.Need-element-copy-out-of
 element-copy-out-of c = search needs

@@ -1,12 +1,12 @@
 -- `Refusal::words` meets its contract: each arm is given the case.
-use borrow.Author.Needs.{needs}
-use Rattle.refusal.proofs.Refusal.words.Statement.{statement}
-use Rattle.refusal.proofs.Refusal.words.Tie as tie
+use Prim.Native.Nat.{ℕ}
 use mathlib.Core.List.{List}
 use mathlib.Core.Path.{sym, ap}
-use Prim.Native.Nat.{ℕ}
+use borrow.Author.Needs.{needs}
 use Rattle.refusal.specs.Outcome.{rowOf, rowWords}
 use Rattle.refusal.specs.declared.Refusal.{Refusal}
+use Rattle.refusal.proofs.Refusal.words.Statement.{statement}
+use Rattle.refusal.proofs.Refusal.words.Tie as tie
 
 abbrev wordsOf : Refusal → List ℕ
 wordsOf r = rowWords (rowOf r)

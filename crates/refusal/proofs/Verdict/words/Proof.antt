@@ -1,9 +1,9 @@
 -- `Verdict::words` meets its contract: a refusal has its own words.
+use mathlib.Core.Path.{_∙_, sym, ap}
 use borrow.Author.Needs.{needs}
+use Rattle.refusal.specs.Outcome.{outcomeOf, outcomeWords}
 use Rattle.refusal.proofs.Verdict.words.Statement.{statement}
 use Rattle.refusal.proofs.Verdict.words.Tie as tie
-use mathlib.Core.Path.{_∙_, sym, ap}
-use Rattle.refusal.specs.Outcome.{outcomeOf, outcomeWords}
 
 enum-told : tie.Need-enum-told
 enum-told c = search needs
