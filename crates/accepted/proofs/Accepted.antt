@@ -10,14 +10,13 @@ use lib.Dec.{ltb}
 use borrow.Author.Tests.{ltb-true, ltb-false, leb-false, eqb-true, eqb-false, not-false, le-ltb}
 use Rattle.layout.specs.Layout.{tablesOf}
 use Rattle.layout.specs.Size.{l1Span, inputLimit}
-use Rattle.layout.specs.Window.{windowsOf, slot}
+use Rattle.layout.specs.Window.{unaligned, check, checksOf, windowsOf, slot}
 use Rattle.layout.specs.declared.Table.{Table}
 use Rattle.layout.specs.declared.Window.{Window}
 use Rattle.refusal.proofs.None.{none, both, test, under, each-none, pairs-none}
 use Rattle.refusal.specs.All.{All, AllPairs}
 use Rattle.refusal.specs.Table.{each, pairs}
-use Rattle.validate.specs.Rows.{unaligned, check, checksOf, row4, row5, row6, row7, row8, refusalsAt}
-use Rattle.windows.specs.Rows.{overlap, row9, row10, row11, row12, pairRows, windowRows}
+use Rattle.rows.specs.Rows.{row4, row5, row6, row7, row8, refusalsAt, overlap, row9, row10, row11, row12, pairRows, windowRows}
 use Rattle.accepted.specs.Accepted.{Nameable, Within, Disjoint, Apart, AcceptedFacts, NoInputOverlap}
 
 neither : (a b : Bool) → (a || b) ≡ false → (a ≡ false) × (b ≡ false)
@@ -120,7 +119,9 @@ nameable-all limit (t ∷ ts) e =
     (record { below = leb-false _ _ (r .0); aligned = aligned _ _ (r .1) }, nameable-all limit ts (e .1))
 
 -- a check of row 6, where it applies
-checked : (n : ℕ) (applies : Bool) (base align : ℕ) → row6 (check n applies base align) ≡ [] → applies ≡ true → base % align ≡ 0
+checked :
+    (n : ℕ) (applies : Bool) (base align : ℕ) →
+    row6 (check n applies base align) ≡ [] → applies ≡ true → base % align ≡ 0
 unfolding row6
 checked n applies base align e p =
     let f : (applies && unaligned base align) ≡ false = test _ _ _ e in aligned base align (rw p at f)

@@ -6,14 +6,12 @@ use mathlib.Core.Path.{_≡_}
 use lib.Dec.{eqb, leb}
 use lib.ListN.{length, getD}
 use borrow.Author.Tests.{ltb-false, leb-false, eqb-true, eqb-false, ne-eqb, not-false}
-use Rattle.guard.specs.Rows.{row13, row14, guardRows, arenaGuardRows}
 use Rattle.layout.specs.Layout.{tablesOf}
 use Rattle.layout.specs.declared.Table.{Table}
-use Rattle.lent.specs.Rows.{row1, row2, row3, lengthRows, mapRows}
 use Rattle.refusal.proofs.None.{none, accept, both, test, pairs-none, from-none}
 use Rattle.refusal.specs.All.{All, AllPairs}
 use Rattle.refusal.specs.Table.{eachFrom, pairs}
-use Rattle.validate.specs.Rows.{refusalsAt}
+use Rattle.rows.specs.Rows.{row13, row14, guardRows, arenaGuardRows, row1, row2, row3, lengthRows, mapRows, refusalsAt}
 use Rattle.accepted.specs.Guarded.{Readable, GuardedFacts, ArenaGuardedFacts}
 use Rattle.accepted.proofs.Accepted.{accepted-facts}
 

@@ -12,8 +12,7 @@ use Rattle.layout.specs.declared.Table.{Table}
 use Rattle.layout.specs.declared.Window.{Window}
 use Rattle.refusal.specs.All.{All, AllPairs}
 use Rattle.refusal.specs.Table.{accepted, first}
-use Rattle.validate.specs.Rows.{refusalsAt}
-use Rattle.windows.specs.Rows.{overlap, row9, row11}
+use Rattle.rows.specs.Rows.{refusalsAt, overlap, row9, row11}
 
 -- a table's address can be named
 pub record Nameable (limit : ℕ) (t : Table) : Type 0 where

@@ -3,12 +3,12 @@ use Prim.Native.Nat.{ℕ, _≤_, _<_}
 use mathlib.Core.List.{List}
 use mathlib.Core.Path.{_≡_}
 use lib.ListN.{length, getD}
-use Rattle.guard.specs.Rows.{guardRows, arenaGuardRows}
 use Rattle.layout.specs.Layout.{tablesOf}
 use Rattle.layout.specs.Size.{entries, arenaLength}
 use Rattle.layout.specs.declared.Layout.{Layout}
 use Rattle.refusal.specs.All.{AllPairs}
 use Rattle.refusal.specs.Table.{accepted, first}
+use Rattle.rows.specs.Rows.{guardRows, arenaGuardRows}
 use Rattle.accepted.specs.Accepted.{Accepted}
 
 -- a map that can be read

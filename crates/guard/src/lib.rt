@@ -9,7 +9,7 @@ ghost use Rattle.layout.specs.Layout.{tablesOf};
 ghost use Rattle.layout.specs.Size.{outputLimit};
 ghost use Rattle.refusal.specs.Outcome.{outcomeOf};
 ghost use Rattle.refusal.specs.Table.{first, each, eachFrom, pairs};
-ghost use Rattle.guard.specs.Rows.{row13, row14, guardRows, arenaGuardRows};
+ghost use Rattle.rows.specs.Rows.{row13, row14, guardRows, arenaGuardRows};
 
 // Rows 1 to 14.
 pub fn guard(arena: &[u64], base: &[u8], sup: &[u8], l: Layout) -> Verdict

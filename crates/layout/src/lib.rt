@@ -1,7 +1,8 @@
 // Where the tables stand and what they map (hv-s2's arm64.rs).
+ghost use Prim.Native.Nat.{_<_};
 ghost use mathlib.Core.Path.{_≡_};
 ghost use Rattle.layout.specs.Layout.{layoutOf, imageOf, tablesOf};
-ghost use Rattle.layout.specs.Window.{imageWindow, dataWindow, deviceWindow, slot};
+ghost use Rattle.layout.specs.Window.{check, checksOf, imageWindow, dataWindow, deviceWindow, slot};
 
 // The address of the guest image, to which it is mapped itself; absent where a guest's code lies in its own memory.
 pub enum GuestImage {
@@ -42,6 +43,14 @@ pub struct Window {
     pub ipa: u64,
     pub pa: u64,
     pub span: u64,
+}
+
+// A base that must be aligned: its code among row 6's checks, 1 to 6, and whether it is not.
+pub struct Check {
+    pub code: u64,
+    pub fails: bool,
+    pub base: u64,
+    pub align: u64,
 }
 
 impl Layout {
@@ -117,6 +126,23 @@ impl Layout {
         ]
     }
 
+    // Row 6's six checks, in their order.
+    pub fn checks(self) -> [Check; 6]
+        ensures { λ r. ⌜ r ≡ checksOf self ⌝ }
+    {
+        let image_pa = self.guest_image_pa;
+        let image = image_pa.window();
+        let device = self.device_window();
+        [
+            Check::of(1, true, self.data_ipa_base, Self::BLOCK_SIZE),
+            Check::of(2, true, self.data_pa_base, Self::PAGE_SIZE),
+            Check::of(3, true, self.sup_ipa_base, Self::BLOCK_SIZE),
+            Check::of(4, true, self.sup_pa_base, Self::BLOCK_SIZE),
+            Check::of(5, image.present, image.ipa, Self::BLOCK_SIZE),
+            Check::of(6, device.present, device.ipa, Self::BLOCK_SIZE),
+        ]
+    }
+
     pub fn data_window(self) -> Window
         ensures { λ r. ⌜ r ≡ dataWindow self ⌝ }
     {
@@ -181,5 +207,19 @@ impl Window {
         ensures { λ r. ⌜ r ≡ slot self ⌝ }
     {
         self.ipa / Layout::L1_ENTRY_SIZE % 512
+    }
+}
+
+impl Check {
+    fn of(code: u64, applies: bool, base: u64, align: u64) -> Self
+        requires { ⌜ 0 < align ⌝ }
+        ensures { λ r. ⌜ r ≡ check code applies base align ⌝ }
+    {
+        Self {
+            code,
+            fails: applies && base % align != 0,
+            base,
+            align,
+        }
     }
 }

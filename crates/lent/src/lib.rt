@@ -5,7 +5,7 @@ use refusal::Verdict;
 ghost use mathlib.Core.Path.{_≡_};
 ghost use Rattle.refusal.specs.Outcome.{outcomeOf};
 ghost use Rattle.refusal.specs.Table.{first, eachFrom};
-ghost use Rattle.lent.specs.Rows.{row1, row2, row3, lengthRows, mapRows};
+ghost use Rattle.rows.specs.Rows.{row1, row2, row3, lengthRows, mapRows};
 
 // Row 1.
 pub fn arena_len(arena: &[u64]) -> Verdict

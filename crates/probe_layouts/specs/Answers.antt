@@ -1,12 +1,11 @@
 -- The outcomes of a layout's checks as eight numbers.
 use Prim.Native.Nat.{ℕ}
 use mathlib.Core.List.{List}
-use Rattle.guard.specs.Rows.{arenaGuardRows}
 use Rattle.layout.specs.Layout.{layoutOf}
 use Rattle.layout.specs.Size.{outputLimit}
 use Rattle.refusal.specs.Outcome.{outcomeWords}
 use Rattle.refusal.specs.Table.{first}
-use Rattle.validate.specs.Rows.{refusals}
+use Rattle.rows.specs.Rows.{arenaGuardRows, refusals}
 
 abbrev pub validated : List ℕ → List ℕ
 validated x = outcomeWords (first (refusals (layoutOf x)))

@@ -1,4 +1,4 @@
--- The first row, where the rows are those of one check and then others: an accepting check is passed over, a refusing one decides.
+-- The first row, where the rows of one check come before others: an accepting check is passed over, a refusing one decides.
 use Prim.Native.Nat.{ℕ}
 use mathlib.Core.List.{List, [], _∷_, _++_, append-nil}
 use mathlib.Core.Path.{_≡_, refl, sym, _∙_, ap}
@@ -28,7 +28,10 @@ pub stop :
     {rows : List Row} (xs ys : List Row) (v : Verdict) (r : Refusal) →
     rows ≡ xs ++ ys → v ≡ Refused r → outcomeOf v ≡ first xs → outcomeOf v ≡ first rows
 stop xs ys v r split told e =
-    let f : outcomeOf v ≡ refused (rowOf r) = ap outcomeOf told in f ∙ sym (ap first split ∙ halt xs ys (rowOf r) (sym e ∙ f))
+    let f : outcomeOf v ≡ refused (rowOf r) = ap outcomeOf told in
+    f ∙ sym (ap first split ∙ halt xs ys (rowOf r) (sym e ∙ f))
 
-pub last : {rows : List Row} (xs : List Row) (v : Verdict) → rows ≡ xs ++ [] → outcomeOf v ≡ first xs → outcomeOf v ≡ first rows
+pub last :
+    {rows : List Row} (xs : List Row) (v : Verdict) →
+    rows ≡ xs ++ [] → outcomeOf v ≡ first xs → outcomeOf v ≡ first rows
 last xs v split e = e ∙ sym (ap first (split ∙ append-nil xs))

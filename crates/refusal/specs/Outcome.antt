@@ -2,14 +2,11 @@
 use Prim.Native.Nat.{ℕ}
 use mathlib.Core.List.{List, [], _∷_}
 use Rattle.fields.specs.Numbers.{eight}
-use Rattle.refusal.specs.Table.{Row, Outcome, accepted, refused}
+use Rattle.refusal.specs.Table.{Row, row, Outcome, accepted, refused}
 use Rattle.refusal.specs.declared.Refusal.{Refusal}
 use Rattle.refusal.specs.declared.Refusal.the-variants.{ArenaLength, MapLength, MapCode, DeviceWindowUnaligned, GranuleNotEmitted, WindowUnaligned, TableUnnameable, SuperFramesUncountable, RegionCrossesL1, OutputPastLimit, RegionsCollide, WindowsOverlap, TablesEqual, SuperUnbacked}
 use Rattle.refusal.specs.declared.Verdict.{Verdict}
 use Rattle.refusal.specs.declared.Verdict.the-variants.{Accepted, Refused}
-
-abbrev pub row : ℕ → List ℕ → Row
-row n vs = record { number = n; carried = vs }
 
 abbrev pub rowOf : Refusal → Row
 rowOf ArenaLength = row 1 []

@@ -8,6 +8,9 @@ pub record Row : Type 0 where
   pub number : ℕ
   pub carried : List ℕ
 
+abbrev pub row : ℕ → List ℕ → Row
+row n vs = record { number = n; carried = vs }
+
 pub data Outcome : Type 0 where
   accepted : Outcome
   refused : Row → Outcome
@@ -23,7 +26,7 @@ given false rs = []
 
 -- row n, where its test holds
 abbrev pub refuseIf : Bool → ℕ → List ℕ → List Row
-refuseIf t n vs = given t (record { number = n; carried = vs } ∷ [])
+refuseIf t n vs = given t (row n vs ∷ [])
 
 -- a row for each element, in order
 abbrev pub each : {A : Type 0} → (A → List Row) → List A → List Row

@@ -1,4 +1,5 @@
 // Rows 4 to 12 of document 01's table, of a layout (hv-s2's arm64.rs, `validate`).
+use layout::Check;
 use layout::Layout;
 use layout::Table;
 use layout::Window;
@@ -9,29 +10,7 @@ ghost use mathlib.Core.Path.{_≡_};
 ghost use Rattle.layout.specs.Window.{windowsOf};
 ghost use Rattle.refusal.specs.Outcome.{outcomeOf};
 ghost use Rattle.refusal.specs.Table.{first, each};
-ghost use Rattle.validate.specs.Rows.{check, checksOf, row6, row7, refusalsAt, refusals};
-
-// One of row 6's checks: its code, whether it fails, the base that it tests and the alignment that it wants.
-pub struct Check {
-    pub code: u64,
-    pub fails: bool,
-    pub base: u64,
-    pub align: u64,
-}
-
-impl Check {
-    fn of(code: u64, applies: bool, base: u64, align: u64) -> Self
-        requires { ⌜ 0 < align ⌝ }
-        ensures { λ r. ⌜ r ≡ check code applies base align ⌝ }
-    {
-        Self {
-            code,
-            fails: applies && base % align != 0,
-            base,
-            align,
-        }
-    }
-}
+ghost use Rattle.rows.specs.Rows.{row6, row7, refusalsAt, refusals};
 
 // What encoding assumes of a layout. A layout that breaks it would be mapped wrongly with no fault.
 pub fn validate(l: Layout) -> Verdict
@@ -55,7 +34,7 @@ pub fn validate_at(limit: u64, l: Layout) -> Verdict
             frame_size: l.frame_size,
         });
     }
-    let aligned = all_aligned(checks(l));
+    let aligned = all_aligned(l.checks());
     let Verdict::Accepted = aligned else {
         return aligned;
     };
@@ -95,23 +74,6 @@ fn aligned(c: Check) -> Verdict
         });
     }
     Verdict::Accepted
-}
-
-// Row 6's six checks, in their order.
-fn checks(l: Layout) -> [Check; 6]
-    ensures { λ r. ⌜ r ≡ checksOf l ⌝ }
-{
-    let image_pa = l.guest_image_pa;
-    let image = image_pa.window();
-    let device = l.device_window();
-    [
-        Check::of(1, true, l.data_ipa_base, Layout::BLOCK_SIZE),
-        Check::of(2, true, l.data_pa_base, Layout::PAGE_SIZE),
-        Check::of(3, true, l.sup_ipa_base, Layout::BLOCK_SIZE),
-        Check::of(4, true, l.sup_pa_base, Layout::BLOCK_SIZE),
-        Check::of(5, image.present, image.ipa, Layout::BLOCK_SIZE),
-        Check::of(6, device.present, device.ipa, Layout::BLOCK_SIZE),
-    ]
 }
 
 fn all_nameable(limit: u64, ts: [Table; 6]) -> Verdict

@@ -9,7 +9,7 @@ ghost use lib.Dec.{ltb};
 ghost use lib.ListN.{drop};
 ghost use Rattle.refusal.specs.Outcome.{outcomeOf};
 ghost use Rattle.refusal.specs.Table.{first, each, pairs};
-ghost use Rattle.windows.specs.Rows.{row9, row10, pairRows, windowRows};
+ghost use Rattle.rows.specs.Rows.{row9, row10, pairRows, windowRows};
 
 // Rows 9 and 10, each over all windows, then 11 and 12, pair by pair.
 pub fn windows(limit: u64, ws: [Window; 4]) -> Verdict

@@ -8,7 +8,7 @@ use borrow.Author.Tests.{eq-eqb, ne-eqb}
 use Rattle.layout.specs.Layout.{tableAt}
 use Rattle.refusal.proofs.Parts.{each-at, each-end}
 use Rattle.refusal.specs.Table.{first, each}
-use Rattle.guard.specs.Rows.{row13}
+use Rattle.rows.specs.Rows.{row13}
 use Rattle.guard.proofs.distinct_from.Statement.{statement}
 use Rattle.guard.proofs.distinct_from.Tie as tie
 
@@ -29,10 +29,12 @@ array-copy-out-other c = search needs
 
 returns : tie.Need-returns Inv-loop μ-loop
 unfolding row13 first
-returns c = let h = c .before .before .before .before .before in
+returns c =
+    let h = c .before .before .before .before .before in
     let a = h .before in
     let inside : h .loop .i < length (a .args .t2) = omega (arith, a .good .1 .0 .1 .0 .1) in
-    rw (h .loop .inv, each-at (a .args .t2) (h .loop .i) (tableAt 0 0) inside (row13 (a .args .t)), eq-eqb _ _ (c .if1 .taken))
+    let here = each-at (a .args .t2) (h .loop .i) (tableAt 0 0) inside (row13 (a .args .t)) in
+    rw (h .loop .inv, here, eq-eqb _ _ (c .if1 .taken))
 
 add-i : tie.Need-add-i Inv-loop μ-loop
 add-i c = search needs
@@ -42,13 +44,16 @@ loop-less c = search needs
 
 loop-again : tie.Need-loop-again Inv-loop μ-loop
 unfolding row13
-loop-again c = let h = c .before .before .before .before .before in
+loop-again c =
+    let h = c .before .before .before .before .before in
     let a = h .before in
     let inside : h .loop .i < length (a .args .t2) = omega (arith, a .good .1 .0 .1 .0 .1) in
-    rw (h .loop .inv, each-at (a .args .t2) (h .loop .i) (tableAt 0 0) inside (row13 (a .args .t)), ne-eqb _ _ (c .if1 .left))
+    let here = each-at (a .args .t2) (h .loop .i) (tableAt 0 0) inside (row13 (a .args .t)) in
+    rw (h .loop .inv, here, ne-eqb _ _ (c .if1 .left))
 
 returns-2 : tie.Need-returns-2 Inv-loop μ-loop
-returns-2 c = let h = c .before in
+returns-2 c =
+    let h = c .before in
     let a = h .before in
     let outside : length (a .args .t2) ≤ h .loop .i = omega (arith, a .good .1 .0 .1 .0 .1) in
     each-end (a .args .t2) (h .loop .i) outside (row13 (a .args .t)) ∙ sym (h .loop .inv)

@@ -3,7 +3,7 @@ use mathlib.Core.List.{flatMap}
 use mathlib.Core.Path.{_∙_, refl, sym}
 use borrow.Author.Needs.{needs}
 use Rattle.refusal.proofs.First.{next, stop, last}
-use Rattle.guard.specs.Rows.{arenaGuardRows}
+use Rattle.rows.specs.Rows.{arenaGuardRows}
 use Rattle.guard.proofs.guard_at.Statement.{statement}
 use Rattle.guard.proofs.guard_at.Tie as tie
 
@@ -18,7 +18,8 @@ enum-told-2 c = search needs
 
 returns : tie.Need-returns
 unfolding arenaGuardRows flatMap
-returns c = let v = c .before .before .arena-len in
+returns c =
+    let v = c .before .before .arena-len in
     let refused = c .enum-told2 .given in stop _ _ (v .result) (refused .0 .0) refl (refused .1) (v .ensures)
 
 guard-maps-at-requires : tie.Need-guard-maps-at-requires
@@ -26,7 +27,8 @@ guard-maps-at-requires c κs = search needs
 
 returns-2 : tie.Need-returns-2
 unfolding arenaGuardRows flatMap
-returns-2 c = let v = c .guard-maps-at in
+returns-2 c =
+    let v = c .guard-maps-at in
     let e = c .before in
     let w = e .before .before .arena-len in
     last _ (v .result) refl (v .ensures) ∙ sym (next _ _ (w .result) refl (e .enum-told .given .1) (w .ensures))

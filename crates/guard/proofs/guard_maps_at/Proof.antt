@@ -1,12 +1,47 @@
 -- `guard_maps_at` meets its contract: an accepting check is passed over, a refusing one decides.
-use mathlib.Core.List.{flatMap}
-use mathlib.Core.Path.{_∙_, refl, sym, ap}
+use Prim.Native.Nat.{ℕ}
+use mathlib.Core.List.{List, [], _∷_, flatMap}
+use mathlib.Core.Path.{_≡_, _∙_, refl, sym, ap}
 use borrow.Author.Needs.{needs}
+use Rattle.layout.specs.Layout.{tablesOf}
+use Rattle.layout.specs.declared.Layout.{Layout}
 use Rattle.refusal.proofs.First.{next, stop, last}
-use Rattle.refusal.specs.Table.{first, pairs}
-use Rattle.guard.specs.Rows.{row13, guardRows}
+use Rattle.refusal.specs.Outcome.{outcomeOf}
+use Rattle.refusal.specs.Table.{Row, first, eachFrom, pairs, table}
+use Rattle.rows.specs.Rows.{row13, row14, refusalsAt, guardRows}
 use Rattle.guard.proofs.guard_maps_at.Statement.{statement}
 use Rattle.guard.proofs.guard_maps_at.Tie as tie
+
+-- the rows from a number on
+
+abbrev from4 : ℕ → List ℕ → Layout → List Row
+from4 limit sup l =
+    table (refusalsAt limit l ∷ pairs row13 (tablesOf l) ∷ eachFrom (row14 (l .«sup_frames»)) 0 sup ∷ [])
+
+abbrev from13 : ℕ → List ℕ → Layout → List Row
+from13 limit sup l = table (pairs row13 (tablesOf l) ∷ eachFrom (row14 (l .«sup_frames»)) 0 sup ∷ [])
+
+-- the first row is among those that are left
+abbrev Left : tie.Start → (ℕ → List ℕ → Layout → List Row) → Type 0
+Left s rows =
+    let a = s .args in
+    first (guardRows (a .limit) (a .base .now) (a .sup .now) (a .l)) ≡ first (rows (a .limit) (a .sup .now) (a .l))
+
+past-3 : (c : tie.After-enum-told) → Left (c .before .before .before .before .before) from4
+unfolding guardRows flatMap
+past-3 c = let v = c .before .before .maps in next _ _ (v .result) refl (c .enum-told .given .1) (v .ensures)
+
+past-12 : (c : tie.After-enum-told3) → Left (c .before .before .before .before .before .before .before .before) from13
+unfolding flatMap
+past-12 c =
+    let v = c .before .before .validate-at in
+    past-3 (c .before .before .before) ∙ next _ _ (v .result) refl (c .enum-told3 .given .1) (v .ensures)
+
+distinct :
+    (c : tie.After-all-distinct) →
+    let s = c .before .before .before .before .before .before .before .before .before .before in
+    outcomeOf (c .all-distinct .result) ≡ first (pairs row13 (tablesOf (s .args .l)))
+distinct c = c .all-distinct .ensures ∙ ap (λ ts. first (pairs row13 ts)) (c .before .tables .ensures)
 
 maps-requires : tie.Need-maps-requires
 maps-requires c κs = search needs
@@ -19,7 +54,8 @@ enum-told-2 c = search needs
 
 returns : tie.Need-returns
 unfolding guardRows flatMap
-returns c = let v = c .before .before .maps in
+returns c =
+    let v = c .before .before .maps in
     let refused = c .enum-told2 .given in stop _ _ (v .result) (refused .0 .0) refl (refused .1) (v .ensures)
 
 validate-at-requires : tie.Need-validate-at-requires
@@ -33,11 +69,10 @@ enum-told-4 c = search needs
 
 returns-2 : tie.Need-returns-2
 unfolding guardRows flatMap
-returns-2 c = let v = c .before .before .validate-at in
+returns-2 c =
+    let v = c .before .before .validate-at in
     let refused = c .enum-told4 .given in
-    let m = c .before .before .before in
-    stop _ _ (v .result) (refused .0 .0) refl (refused .1) (v .ensures)
-    ∙ sym (next _ _ (m .before .before .maps .result) refl (m .enum-told .given .1) (m .before .before .maps .ensures))
+    stop _ _ (v .result) (refused .0 .0) refl (refused .1) (v .ensures) ∙ sym (past-3 (c .before .before .before))
 
 tables-requires : tie.Need-tables-requires
 tables-requires c κs = search needs
@@ -53,29 +88,22 @@ enum-told-6 c = search needs
 
 returns-3 : tie.Need-returns-3
 unfolding guardRows flatMap
-returns-3 c = let v = c .before .before .all-distinct in
+returns-3 c =
+    let v = c .before .before in
     let refused = c .enum-told6 .given in
-    let tables = c .before .before .before in
-    let valid = tables .before in
-    let m = valid .before .before .before in
-    stop _ _ (v .result) (refused .0 .0) refl (refused .1) (v .ensures ∙ ap (λ ts. first (pairs row13 ts)) (tables .tables .ensures))
-    ∙ sym (next _ _ (valid .before .before .validate-at .result) refl (valid .enum-told3 .given .1) (valid .before .before .validate-at .ensures))
-    ∙ sym (next _ _ (m .before .before .maps .result) refl (m .enum-told .given .1) (m .before .before .maps .ensures))
+    stop _ _ (v .all-distinct .result) (refused .0 .0) refl (refused .1) (distinct v) ∙ sym (past-12 (v .before .before))
 
 backed-requires : tie.Need-backed-requires
 backed-requires c κs = search needs
 
 returns-4 : tie.Need-returns-4
 unfolding guardRows flatMap
-returns-4 c = let told = c .before in
-    let d = told .before .before .all-distinct in
-    let tables = told .before .before .before in
-    let valid = tables .before in
-    let m = valid .before .before .before in
+returns-4 c =
+    let told = c .before in
+    let v = told .before .before in
     last _ (c .backed .result) refl (c .backed .ensures)
-    ∙ sym (next _ _ (d .result) refl (told .enum-told5 .given .1) (d .ensures ∙ ap (λ ts. first (pairs row13 ts)) (tables .tables .ensures)))
-    ∙ sym (next _ _ (valid .before .before .validate-at .result) refl (valid .enum-told3 .given .1) (valid .before .before .validate-at .ensures))
-    ∙ sym (next _ _ (m .before .before .maps .result) refl (m .enum-told .given .1) (m .before .before .maps .ensures))
+    ∙ sym (next _ _ (v .all-distinct .result) refl (told .enum-told5 .given .1) (distinct v))
+    ∙ sym (past-12 (v .before .before))
 
 pub guard-maps-at-spec : {M : Type 1} → statement M
 guard-maps-at-spec =

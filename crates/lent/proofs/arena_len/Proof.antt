@@ -1,7 +1,7 @@
 -- `arena_len` meets its contract: the branch is the row's test.
 use borrow.Author.Tests.{eq-eqb, ne-eqb}
 use Rattle.refusal.specs.Table.{first}
-use Rattle.lent.specs.Rows.{row1}
+use Rattle.rows.specs.Rows.{row1}
 use Rattle.lent.proofs.arena_len.Statement.{statement}
 use Rattle.lent.proofs.arena_len.Tie as tie
 

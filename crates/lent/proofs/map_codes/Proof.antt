@@ -6,7 +6,7 @@ use borrow.Author.Needs.{needs}
 use borrow.Author.Tests.{lt-ltb, le-ltb}
 use Rattle.refusal.proofs.Parts.{from-at, from-end}
 use Rattle.refusal.specs.Table.{first, eachFrom}
-use Rattle.lent.specs.Rows.{row3}
+use Rattle.rows.specs.Rows.{row3}
 use Rattle.lent.proofs.map_codes.Statement.{statement}
 use Rattle.lent.proofs.map_codes.Tie as tie
 
@@ -24,9 +24,12 @@ shared-slice-read-if1 c = search needs
 
 returns : tie.Need-returns Inv-loop μ-loop
 unfolding row3 first
-returns c = let h = c .before .before .before in
+returns c =
+    let turn = c .before .before in
+    let h = turn .before in
     let a = h .before .args in
-    rw (h .loop .inv, from-at (a .map .now) (h .loop .i) 0 (c .before .before .loop-test .taken) (row3 (a .code)), lt-ltb _ _ (c .if1 .taken))
+    let here = from-at (a .map .now) (h .loop .i) 0 (turn .loop-test .taken) (row3 (a .code)) in
+    rw (h .loop .inv, here, lt-ltb _ _ (c .if1 .taken))
 
 add-i : tie.Need-add-i Inv-loop μ-loop
 add-i c = search needs
@@ -36,12 +39,16 @@ loop-less c = search needs
 
 loop-again : tie.Need-loop-again Inv-loop μ-loop
 unfolding row3
-loop-again c = let h = c .before .before .before in
+loop-again c =
+    let turn = c .before .before in
+    let h = turn .before in
     let a = h .before .args in
-    rw (h .loop .inv, from-at (a .map .now) (h .loop .i) 0 (c .before .before .loop-test .taken) (row3 (a .code)), le-ltb _ _ (c .if1 .left))
+    let here = from-at (a .map .now) (h .loop .i) 0 (turn .loop-test .taken) (row3 (a .code)) in
+    rw (h .loop .inv, here, le-ltb _ _ (c .if1 .left))
 
 returns-2 : tie.Need-returns-2 Inv-loop μ-loop
-returns-2 c = let h = c .before in
+returns-2 c =
+    let h = c .before in
     let a = h .before .args in
     from-end (a .map .now) (h .loop .i) (c .loop-test .left) (row3 (a .code)) ∙ sym (h .loop .inv)
 

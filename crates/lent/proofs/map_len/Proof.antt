@@ -1,7 +1,7 @@
 -- `map_len` meets its contract: the branch is the row's test.
 use borrow.Author.Tests.{lt-ltb, le-ltb}
 use Rattle.refusal.specs.Table.{first}
-use Rattle.lent.specs.Rows.{row2}
+use Rattle.rows.specs.Rows.{row2}
 use Rattle.lent.proofs.map_len.Statement.{statement}
 use Rattle.lent.proofs.map_len.Tie as tie
 

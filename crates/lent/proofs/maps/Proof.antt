@@ -3,7 +3,7 @@ use mathlib.Core.List.{flatMap}
 use mathlib.Core.Path.{_∙_, refl, sym}
 use borrow.Author.Needs.{needs}
 use Rattle.refusal.proofs.First.{next, stop, last}
-use Rattle.lent.specs.Rows.{mapRows}
+use Rattle.rows.specs.Rows.{mapRows}
 use Rattle.lent.proofs.maps.Statement.{statement}
 use Rattle.lent.proofs.maps.Tie as tie
 
@@ -18,7 +18,8 @@ enum-told-2 c = search needs
 
 returns : tie.Need-returns
 unfolding mapRows flatMap
-returns c = let v = c .before .before .map-lens in
+returns c =
+    let v = c .before .before .map-lens in
     let refused = c .enum-told2 .given in stop _ _ (v .result) (refused .0 .0) refl (refused .1) (v .ensures)
 
 map-codes-requires : tie.Need-map-codes-requires
@@ -32,18 +33,21 @@ enum-told-4 c = search needs
 
 returns-2 : tie.Need-returns-2
 unfolding mapRows flatMap
-returns-2 c = let e = c .before .before .before in
+returns-2 c =
+    let e = c .before .before .before in
     let w = e .before .before .map-lens in
     let v = c .before .before .map-codes in
     let refused = c .enum-told4 .given in
-    stop _ _ (v .result) (refused .0 .0) refl (refused .1) (v .ensures) ∙ sym (next _ _ (w .result) refl (e .enum-told .given .1) (w .ensures))
+    stop _ _ (v .result) (refused .0 .0) refl (refused .1) (v .ensures)
+    ∙ sym (next _ _ (w .result) refl (e .enum-told .given .1) (w .ensures))
 
 map-codes-requires-2 : tie.Need-map-codes-requires-2
 map-codes-requires-2 c κs = search needs
 
 returns-3 : tie.Need-returns-3
 unfolding mapRows flatMap
-returns-3 c = let e = c .before .before .before .before in
+returns-3 c =
+    let e = c .before .before .before .before in
     let w = e .before .before .map-lens in
     let v = c .before .before .before .map-codes in
     last _ (c .map-codes2 .result) refl (c .map-codes2 .ensures)

@@ -1,6 +1,6 @@
 -- `aligned` meets its contract: the branch is the row's test.
 use Rattle.refusal.specs.Table.{first}
-use Rattle.validate.specs.Rows.{row6}
+use Rattle.rows.specs.Rows.{row6}
 use Rattle.validate.proofs.aligned.Statement.{statement}
 use Rattle.validate.proofs.aligned.Tie as tie
 

@@ -1,7 +1,7 @@
 -- `nameable` meets its contract: each return has the row's tests behind it.
 use borrow.Author.Tests.{le-leb, lt-leb, eq-eqb, ne-eqb}
 use Rattle.refusal.specs.Table.{first}
-use Rattle.validate.specs.Rows.{row7}
+use Rattle.rows.specs.Rows.{row7}
 use Rattle.validate.proofs.nameable.Statement.{statement}
 use Rattle.validate.proofs.nameable.Tie as tie
 

@@ -5,16 +5,16 @@ use mathlib.Core.Path.{_≡_, _∙_, refl, sym, ap}
 use borrow.Author.Needs.{needs}
 use borrow.Author.Tests.{eq-eqb, ne-eqb, le-leb, lt-leb}
 use Rattle.layout.specs.Layout.{tablesOf}
-use Rattle.layout.specs.Window.{windowsOf}
+use Rattle.layout.specs.Window.{checksOf, windowsOf}
 use Rattle.layout.specs.declared.Layout.{Layout}
 use Rattle.refusal.proofs.First.{next, stop, last}
+use Rattle.refusal.specs.Outcome.{outcomeOf}
 use Rattle.refusal.specs.Table.{Row, first, each, table}
-use Rattle.windows.specs.Rows.{windowRows}
-use Rattle.validate.specs.Rows.{checksOf, row4, row5, row6, row7, row8, refusalsAt}
+use Rattle.rows.specs.Rows.{row4, row5, row6, row7, row8, windowRows, refusalsAt}
 use Rattle.validate.proofs.validate_at.Statement.{statement}
 use Rattle.validate.proofs.validate_at.Tie as tie
 
--- the rows that are left, and what is passed when a place is reached
+-- the rows from a number on
 
 abbrev from6 : ℕ → Layout → List Row
 from6 limit l =
@@ -26,26 +26,54 @@ from7 limit l = table (each (row7 limit) (tablesOf l) ∷ row8 l ∷ windowRows 
 abbrev from8 : ℕ → Layout → List Row
 from8 limit l = table (row8 l ∷ windowRows limit (windowsOf l) ∷ [])
 
-past-5 : (c : tie.Else2) → first (refusalsAt (c .before .before .before .before .args .limit) (c .before .before .before .before .args .l)) ≡ first (from6 (c .before .before .before .before .args .limit) (c .before .before .before .before .args .l))
+abbrev from9 : ℕ → Layout → List Row
+from9 limit l = table (windowRows limit (windowsOf l) ∷ [])
+
+-- the first row is among those that are left
+abbrev Left : tie.Start → (ℕ → Layout → List Row) → Type 0
+Left s rows = first (refusalsAt (s .args .limit) (s .args .l)) ≡ first (rows (s .args .limit) (s .args .l))
+
+-- where each call is made
+
+abbrev at6 : tie.Else2 → tie.Start
+at6 c = c .before .before .before .before
+
+abbrev at7 : tie.After-enum-told → tie.Start
+at7 c = at6 (c .before .before .before .before)
+
+abbrev at8 : tie.After-enum-told3 → tie.Start
+at8 c = at7 (c .before .before .before .before)
+
+past-5 : (c : tie.Else2) → Left (at6 c) from6
 unfolding refusalsAt row4 row5 flatMap
 past-5 c = simp (eq-eqb _ _ (c .before .before .if1 .left), eq-eqb _ _ (c .if2 .left))
 
-past-6 : (c : tie.After-enum-told) → first (refusalsAt (c .before .before .before .before .before .before .before .before .args .limit) (c .before .before .before .before .before .before .before .before .args .l)) ≡ first (from7 (c .before .before .before .before .before .before .before .before .args .limit) (c .before .before .before .before .before .before .before .before .args .l))
+aligned :
+    (c : tie.After-all-aligned) →
+    outcomeOf (c .all-aligned .result) ≡ first (each row6 (checksOf (at6 (c .before .before) .args .l)))
+aligned c = c .all-aligned .ensures ∙ ap (λ cs. first (each row6 cs)) (c .before .checks .ensures)
+
+past-6 : (c : tie.After-enum-told) → Left (at7 c) from7
 unfolding flatMap
 past-6 c =
-    let v = c .before .before .all-aligned in
-    let checks = c .before .before .before in
-    past-5 (checks .before) ∙ next _ _ (v .result) refl (c .enum-told .given .1) (v .ensures ∙ ap (λ cs. first (each row6 cs)) (checks .checks .ensures))
+    let v = c .before .before in
+    past-5 (v .before .before) ∙ next _ _ (v .all-aligned .result) refl (c .enum-told .given .1) (aligned v)
 
-past-7 : (c : tie.After-enum-told3) → first (refusalsAt (c .before .before .before .before .before .before .before .before .before .before .before .before .args .limit) (c .before .before .before .before .before .before .before .before .before .before .before .before .args .l)) ≡ first (from8 (c .before .before .before .before .before .before .before .before .before .before .before .before .args .limit) (c .before .before .before .before .before .before .before .before .before .before .before .before .args .l))
+nameable :
+    (c : tie.After-all-nameable) →
+    outcomeOf (c .all-nameable .result)
+    ≡ first (each (row7 (at7 (c .before .before) .args .limit)) (tablesOf (at7 (c .before .before) .args .l)))
+nameable c =
+    let limit = at7 (c .before .before) .args .limit in
+    c .all-nameable .ensures ∙ ap (λ ts. first (each (row7 limit) ts)) (c .before .tables .ensures)
+
+past-7 : (c : tie.After-enum-told3) → Left (at8 c) from8
 unfolding flatMap
 past-7 c =
-    let v = c .before .before .all-nameable in
-    let tables = c .before .before .before in
-    let limit = c .before .before .before .before .before .before .before .before .before .before .before .before .args .limit in
-    past-6 (tables .before) ∙ next _ _ (v .result) refl (c .enum-told3 .given .1) (v .ensures ∙ ap (λ ts. first (each (row7 limit) ts)) (tables .tables .ensures))
+    let v = c .before .before in
+    past-6 (v .before .before) ∙ next _ _ (v .all-nameable .result) refl (c .enum-told3 .given .1) (nameable v)
 
-past-8 : (c : tie.Else3) → first (refusalsAt (c .before .before .before .before .before .before .before .before .before .before .before .before .before .before .args .limit) (c .before .before .before .before .before .before .before .before .before .before .before .before .before .before .args .l)) ≡ first (table (windowRows (c .before .before .before .before .before .before .before .before .before .before .before .before .before .before .args .limit) (windowsOf (c .before .before .before .before .before .before .before .before .before .before .before .before .before .before .args .l)) ∷ []))
+past-8 : (c : tie.Else3) → Left (at8 (c .before .before)) from9
 unfolding row8 flatMap
 past-8 c = past-7 (c .before .before) ∙ simp (lt-leb _ _ (c .if3 .left))
 
@@ -71,10 +99,10 @@ enum-told-2 c = search needs
 
 returns-3 : tie.Need-returns-3
 unfolding flatMap
-returns-3 c = let v = c .before .before .all-aligned in
+returns-3 c =
+    let v = c .before .before in
     let refused = c .enum-told2 .given in
-    let checks = c .before .before .before in
-    stop _ _ (v .result) (refused .0 .0) refl (refused .1) (v .ensures ∙ ap (λ cs. first (each row6 cs)) (checks .checks .ensures)) ∙ sym (past-5 (checks .before))
+    stop _ _ (v .all-aligned .result) (refused .0 .0) refl (refused .1) (aligned v) ∙ sym (past-5 (v .before .before))
 
 tables-requires : tie.Need-tables-requires
 tables-requires c κs = search needs
@@ -90,12 +118,10 @@ enum-told-4 c = search needs
 
 returns-4 : tie.Need-returns-4
 unfolding flatMap
-returns-4 c = let v = c .before .before .all-nameable in
+returns-4 c =
+    let v = c .before .before in
     let refused = c .enum-told4 .given in
-    let tables = c .before .before .before in
-    let limit = tables .before .before .before .before .before .before .before .before .before .args .limit in
-    stop _ _ (v .result) (refused .0 .0) refl (refused .1) (v .ensures ∙ ap (λ ts. first (each (row7 limit) ts)) (tables .tables .ensures))
-    ∙ sym (past-6 (tables .before))
+    stop _ _ (v .all-nameable .result) (refused .0 .0) refl (refused .1) (nameable v) ∙ sym (past-6 (v .before .before))
 
 returns-5 : tie.Need-returns-5
 unfolding row8 first flatMap
@@ -109,10 +135,12 @@ windows-requires c κs = search needs
 
 returns-6 : tie.Need-returns-6
 unfolding flatMap
-returns-6 c = let v = c .windows in
-    let of = c .before in
-    let limit = of .before .before .before .before .before .before .before .before .before .before .before .before .before .before .before .args .limit in
-    last _ (v .result) refl (v .ensures ∙ ap (λ ws. first (windowRows limit ws)) (of .windows-of .ensures)) ∙ sym (past-8 (of .before))
+returns-6 c =
+    let e = c .before .before in
+    let limit = at8 (e .before .before) .args .limit in
+    last _ (c .windows .result) refl
+    (c .windows .ensures ∙ ap (λ ws. first (windowRows limit ws)) (c .before .windows-of .ensures))
+    ∙ sym (past-8 e)
 
 pub validate-at-spec : {M : Type 1} → statement M
 validate-at-spec =

@@ -1,25 +1,38 @@
 -- `apart` meets its contract: each return has the rows' tests behind it.
+use Prim.Native.Nat.{_+_}
 use mathlib.Core.Bool.{true, false}
 use mathlib.Core.Path.{_≡_, sym, _∙_}
-use lib.Dec.{eqb}
+use lib.Dec.{eqb, ltb}
 use borrow.Author.Needs.{needs}
 use borrow.Author.Tests.{not-true, not-false, eq-eqb, ne-eqb}
 use Rattle.layout.specs.Window.{slot}
 use Rattle.refusal.specs.Table.{first}
-use Rattle.windows.specs.Rows.{pairRows}
+use Rattle.rows.specs.Rows.{pairRows}
 use Rattle.windows.proofs.apart.Statement.{statement}
 use Rattle.windows.proofs.apart.Tie as tie
 
--- both windows are present, in different slots
+-- once both indexes are read, both windows are present
 
-present-v : (c : tie.Else3) → c .before .before .before .before .before .before .before .args .v .present ≡ true
-present-v c = not-false (c .before .before .before .before .before .before .before .args .v .present) (c .before .before .before .before .before .if1 .left)
+abbrev start : tie.After-l1-index2 → tie.Start
+start c = c .before .before .before .before .before .before
 
-present-w : (c : tie.Else3) → c .before .before .before .before .before .before .before .args .w .present ≡ true
-present-w c = not-false (c .before .before .before .before .before .before .before .args .w .present) (c .before .before .before .if2 .left)
+present-v : (c : tie.After-l1-index2) → start c .args .v .present ≡ true
+present-v c = let v = c .before .before .before .before in not-false (start c .args .v .present) (v .if1 .left)
 
-slots : (c : tie.Else3) → eqb (slot (c .before .before .before .before .before .before .before .args .v)) (slot (c .before .before .before .before .before .before .before .args .w)) ≡ false
-slots c = ne-eqb _ _ (λ e. c .if3 .left (c .before .before .l1-index .ensures ∙ e ∙ sym (c .before .l1-index2 .ensures)))
+present-w : (c : tie.After-l1-index2) → start c .args .w .present ≡ true
+present-w c = not-false (start c .args .w .present) (c .before .before .if2 .left)
+
+slots : (c : tie.Else3) → eqb (slot (start (c .before) .args .v)) (slot (start (c .before) .args .w)) ≡ false
+slots c =
+    let e = c .before in
+    ne-eqb _ _ (λ same. c .if3 .left (e .before .l1-index .ensures ∙ same ∙ sym (e .l1-index2 .ensures)))
+
+first-below :
+    (c : tie.Else4) →
+    let a = start (c .before .before .before) .args in
+    ltb (a .v .pa) (a .w .pa + a .w .span) ≡ true
+first-below c =
+    let w = c .before .begins-below in sym (w .ensures) ∙ not-false (w .result) (c .if4 .left)
 
 returns : tie.Need-returns
 unfolding pairRows first
@@ -27,7 +40,10 @@ returns c = simp (not-true (c .before .before .args .v .present) (c .if1 .taken)
 
 returns-2 : tie.Need-returns-2
 unfolding pairRows first
-returns-2 c = simp (not-false (c .before .before .before .before .args .v .present) (c .before .before .if1 .left), not-true (c .before .before .before .before .args .w .present) (c .if2 .taken))
+returns-2 c =
+    let v = c .before .before in
+    let a = v .before .before .args in
+    simp (not-false (a .v .present) (v .if1 .left), not-true (a .w .present) (c .if2 .taken))
 
 l1-index-requires : tie.Need-l1-index-requires
 l1-index-requires c κs = search needs
@@ -37,47 +53,55 @@ l1-index-requires-2 c κs = search needs
 
 returns-3 : tie.Need-returns-3
 unfolding pairRows first
-returns-3 c = let a = c .before .before .before .before .before .before .before .args in
-    let index = c .before .before .l1-index .ensures in
-    let same : slot (a .v) ≡ slot (a .w) = sym index ∙ c .if3 .taken ∙ c .before .l1-index2 .ensures in
-    simp (not-false (a .v .present) (c .before .before .before .before .before .if1 .left), not-false (a .w .present) (c .before .before .before .if2 .left), eq-eqb _ _ same, index)
+returns-3 c =
+    let e = c .before in
+    let a = start e .args in
+    let index = e .before .l1-index .ensures in
+    let same : slot (a .v) ≡ slot (a .w) = sym index ∙ c .if3 .taken ∙ e .l1-index2 .ensures in
+    simp (present-v e, present-w e, eq-eqb _ _ same, index)
 
 begins-below-requires : tie.Need-begins-below-requires
 begins-below-requires c κs = search needs
 
 returns-4 : tie.Need-returns-4
 unfolding pairRows first
-returns-4 c = let e = c .before in
-    let w = e .begins-below in
-    simp (present-v (e .before), present-w (e .before), slots (e .before), sym (w .ensures) ∙ not-true (w .result) (c .if4 .taken))
+returns-4 c =
+    let w = c .before in
+    let e = w .before in
+    simp (
+      present-v (e .before),
+      present-w (e .before),
+      slots e,
+      sym (w .begins-below .ensures) ∙ not-true (w .begins-below .result) (c .if4 .taken),
+    )
 
 begins-below-requires-2 : tie.Need-begins-below-requires-2
 begins-below-requires-2 c κs = search needs
 
 returns-5 : tie.Need-returns-5
 unfolding pairRows first
-returns-5 c = let e = c .before .before .before in
-    let v = c .before .begins-below2 in
-    let w = e .begins-below in
+returns-5 c =
+    let v = c .before in
+    let e = v .before .before .before in
     simp (
       present-v (e .before),
       present-w (e .before),
-      slots (e .before),
-      sym (w .ensures) ∙ not-false (w .result) (c .before .before .if4 .left),
-      sym (v .ensures) ∙ not-true (v .result) (c .if5 .taken),
+      slots e,
+      first-below (v .before),
+      sym (v .begins-below2 .ensures) ∙ not-true (v .begins-below2 .result) (c .if5 .taken),
     )
 
 returns-6 : tie.Need-returns-6
 unfolding pairRows first
-returns-6 c = let e = c .before .before .before in
-    let v = c .before .begins-below2 in
-    let w = e .begins-below in
+returns-6 c =
+    let v = c .before in
+    let e = v .before .before .before in
     simp (
       present-v (e .before),
       present-w (e .before),
-      slots (e .before),
-      sym (w .ensures) ∙ not-false (w .result) (c .before .before .if4 .left),
-      sym (v .ensures) ∙ not-false (v .result) (c .if5 .left),
+      slots e,
+      first-below (v .before),
+      sym (v .begins-below2 .ensures) ∙ not-false (v .begins-below2 .result) (c .if5 .left),
     )
 
 pub apart-spec : {M : Type 1} → statement M

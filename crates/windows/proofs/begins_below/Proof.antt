@@ -20,7 +20,8 @@ same x pa span h = go (ltb (x - pa) span) refl
         let s : pa + span ≤ x = omega arith in e ∙ sym (le-ltb _ _ s)
 
 returns : tie.Need-returns
-returns c = let a = c .before .before .args in
+returns c =
+    let a = c .before .before .args in
     let h : a .pa < a .w .pa + a .w .span = omega arith in sym (lt-ltb _ _ h)
 
 returns-2 : tie.Need-returns-2

@@ -3,7 +3,7 @@ use mathlib.Core.List.{flatMap}
 use mathlib.Core.Path.{_∙_, refl, sym}
 use borrow.Author.Needs.{needs}
 use Rattle.refusal.proofs.First.{next, stop, last}
-use Rattle.windows.specs.Rows.{windowRows}
+use Rattle.rows.specs.Rows.{windowRows}
 use Rattle.windows.proofs.windows.Statement.{statement}
 use Rattle.windows.proofs.windows.Tie as tie
 
@@ -18,7 +18,8 @@ enum-told-2 c = search needs
 
 returns : tie.Need-returns
 unfolding windowRows flatMap
-returns c = let v = c .before .before .all-inside in
+returns c =
+    let v = c .before .before .all-inside in
     let refused = c .enum-told2 .given in stop _ _ (v .result) (refused .0 .0) refl (refused .1) (v .ensures)
 
 all-reached-requires : tie.Need-all-reached-requires
@@ -32,18 +33,21 @@ enum-told-4 c = search needs
 
 returns-2 : tie.Need-returns-2
 unfolding windowRows flatMap
-returns-2 c = let e = c .before .before .before in
+returns-2 c =
+    let e = c .before .before .before in
     let w = e .before .before .all-inside in
     let v = c .before .before .all-reached in
     let refused = c .enum-told4 .given in
-    stop _ _ (v .result) (refused .0 .0) refl (refused .1) (v .ensures) ∙ sym (next _ _ (w .result) refl (e .enum-told .given .1) (w .ensures))
+    stop _ _ (v .result) (refused .0 .0) refl (refused .1) (v .ensures)
+    ∙ sym (next _ _ (w .result) refl (e .enum-told .given .1) (w .ensures))
 
 all-apart-requires : tie.Need-all-apart-requires
 all-apart-requires c κs = search needs
 
 returns-3 : tie.Need-returns-3
 unfolding windowRows flatMap
-returns-3 c = let e = c .before .before .before .before in
+returns-3 c =
+    let e = c .before .before .before .before in
     let w = e .before .before .all-inside in
     let v = c .before .before .before .all-reached in
     last _ (c .all-apart .result) refl (c .all-apart .ensures)

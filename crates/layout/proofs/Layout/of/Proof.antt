@@ -60,7 +60,9 @@ element-copy-out-t52 c = search needs
 
 returns : tie.Need-returns
 unfolding layoutOf
-returns c = simp (c .before .before .before .before .before .before .before .before .before .before .before .before .before .before .before .of .ensures)
+returns c =
+    let frames = c .before .before .before .before .before .before .before .before in
+    let image = frames .before .before .before .before .before .before .before in simp (image .of .ensures)
 
 pub of-spec : {M : Type 1} → statement M
 of-spec =

@@ -1,14 +1,12 @@
--- The examples of document 01's rows 1 to 14, its accepted edges, and the super of no frames inside data's output range.
+-- The examples of document 01's rows 1 to 14, its accepted edges, and the order of its rows.
 use Prim.Native.Nat.{ℕ, _-_, _*_, _^_}
 use mathlib.Core.List.{List, [], _∷_}
 use mathlib.Core.Path.{_≡_}
 use lib.ListN.{replicate, set}
-use Rattle.guard.specs.Rows.{arenaGuardRows}
 use Rattle.layout.specs.Layout.{layoutOf}
 use Rattle.layout.specs.Size.{block, outputLimit}
-use Rattle.refusal.specs.Outcome.{row}
-use Rattle.refusal.specs.Table.{Outcome, accepted, refused, first}
-use Rattle.validate.specs.Rows.{refusals}
+use Rattle.refusal.specs.Table.{row, Outcome, accepted, refused, first}
+use Rattle.rows.specs.Rows.{arenaGuardRows, refusals}
 
 -- S, by its lines: fields 1 to 10, and no image
 abbrev pub sceneS : List ℕ
@@ -67,5 +65,26 @@ pub record Examples : Type 0 where
   pub frames512 : validated (line 0x10 512 sceneS) ≡ accepted
   pub last-output : validated (line 9 (2 ^ 48 - block) sceneS) ≡ accepted
   pub no-frames : validated (line 0x10 0 (line 0xC 0x5000_0000 sceneS)) ≡ accepted
+  -- strictly inside data's output range
   pub no-frames-inside :
       validated (line 0x10 0 (line 0xC 0x5020_0000 (line 9 0x5000_1000 sceneS))) ≡ refused (row 12 [])
+
+-- where several rows apply, the first is the answer
+pub record Ordered : Type 0 where
+  pub one-two : guarded 3071 (replicate 513 0) supS sceneS ≡ refused (row 1 [])
+  pub two-three : guarded 3072 (0 ∷ 4 ∷ []) (replicate 513 0) sceneS ≡ refused (row 2 [])
+  pub three-four : guarded 3072 baseS (4 ∷ []) (line 0xE 4096 sceneS) ≡ refused (row 3 (2 ∷ 0 ∷ []))
+  pub four-five : validated (line 0xE 4096 (line 0xA 0 sceneS)) ≡ refused (row 4 (0x900_0000 ∷ 4096 ∷ []))
+  pub five-six : validated (line 0xA 0 (line 8 1 sceneS)) ≡ refused (row 5 (0 ∷ []))
+  pub six-seven : validated (line 8 1 (line 1 1 sceneS)) ≡ refused (row 6 (1 ∷ 1 ∷ block ∷ []))
+  pub seven-eight : validated (line 1 1 (line 0x10 (2 ^ 43) sceneS)) ≡ refused (row 7 (1 ∷ 1 ∷ []))
+  pub eight-nine : validated (line 0x10 (2 ^ 43) (line 8 (2 ^ 39) sceneS)) ≡ refused (row 8 (2 ^ 43 ∷ []))
+  pub nine-ten : validated (line 0x10 513 (line 9 (2 ^ 48) sceneS)) ≡ refused (row 9 (3 ∷ 513 * block ∷ []))
+  pub ten-eleven : validated (line 0xC (2 ^ 48) (line 0xB 0x8020_0000 sceneS)) ≡ refused (row 10 (3 ∷ 2 ^ 48 ∷ []))
+  pub eleven-twelve : validated (line 0xB 0x8020_0000 (line 0xC 0x5000_0000 sceneS)) ≡ refused (row 11 (2 ∷ []))
+  pub pair-by-pair : validated (line 0xC 0x5000_0000 (line 0xD 0xC080_0000 sceneS)) ≡ refused (row 12 [])
+  pub twelve-thirteen :
+      guarded 3072 baseS supS (line 0xC 0x5000_0000 (line 6 0x4000_0000 sceneS)) ≡ refused (row 12 [])
+  pub thirteen-fourteen :
+      guarded 3072 baseS (0 ∷ 0 ∷ 0 ∷ 0 ∷ 1 ∷ []) (line 6 0x4000_0000 sceneS) ≡ refused (row 13 (1 ∷ 6 ∷ []))
+  pub base-super : guarded 3072 (4 ∷ []) (4 ∷ []) sceneS ≡ refused (row 3 (1 ∷ 0 ∷ []))

@@ -1,7 +1,7 @@
--- `checks` meets its contract: each check is the one that its code names.
+-- `Layout::checks` meets its contract: each check is the one that its code names.
 use borrow.Author.Needs.{needs}
-use Rattle.validate.proofs.checks.Statement.{statement}
-use Rattle.validate.proofs.checks.Tie as tie
+use Rattle.layout.proofs.Layout.checks.Statement.{statement}
+use Rattle.layout.proofs.Layout.checks.Tie as tie
 
 window-requires : tie.Need-window-requires
 window-requires c κs = search needs
@@ -28,7 +28,8 @@ of-requires-6 : tie.Need-of-requires-6
 of-requires-6 c κs = search needs
 
 returns : tie.Need-returns
-returns c = let d = c .before .before .before .before .before .before in
+returns c =
+    let d = c .before .before .before .before .before .before in
     let i = d .before in
     simp (
       c .of6 .ensures,

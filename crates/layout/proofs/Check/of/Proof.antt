@@ -1,7 +1,7 @@
 -- `Check::of` meets its contract: it fails where it applies and the remainder is not zero.
 use borrow.Author.Needs.{needs}
-use Rattle.validate.proofs.Check.of.Statement.{statement}
-use Rattle.validate.proofs.Check.of.Tie as tie
+use Rattle.layout.proofs.Check.of.Statement.{statement}
+use Rattle.layout.proofs.Check.of.Tie as tie
 
 rem-t10 : tie.Need-rem-t10
 rem-t10 c = search needs
