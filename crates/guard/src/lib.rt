@@ -49,10 +49,10 @@ pub fn guard_maps_at(limit: u64, base: &[u8], sup: &[u8], l: Layout) -> Verdict
 }
 
 // Row 13, over every pair.
-fn all_distinct(ts: [Table; 6]) -> Verdict
+fn all_distinct(ts: [Table; Layout::TABLES]) -> Verdict
     ensures { λ r. ⌜ outcomeOf r ≡ first (pairs row13 ts) ⌝ }
 {
-    for i in 0..6 {
+    for i in 0..Layout::TABLES {
         let verdict = distinct_from(ts[i], ts, i + 1);
         let Verdict::Accepted = verdict else {
             return verdict;
@@ -62,10 +62,10 @@ fn all_distinct(ts: [Table; 6]) -> Verdict
 }
 
 // Row 13, of a table and those from the given one on.
-fn distinct_from(t: Table, ts: [Table; 6], from: usize) -> Verdict
+fn distinct_from(t: Table, ts: [Table; Layout::TABLES], from: usize) -> Verdict
     ensures { λ r. ⌜ outcomeOf r ≡ first (each (row13 t) (drop from ts)) ⌝ }
 {
-    for i in from..6 {
+    for i in from..Layout::TABLES {
         let other = ts[i];
         if t.pa == other.pa {
             return Verdict::Refused(Refusal::TablesEqual {

@@ -67,8 +67,14 @@ impl Layout {
     pub const UNCOUNTABLE: u64 = 0x800_0000_0000;
     // Words of a table, and the most that a map can name.
     pub const ENTRIES: usize = 512;
-    // Words of six tables.
-    pub const ARENA_LEN: usize = 6 * Self::ENTRIES;
+
+    pub const TABLES: usize = 6;
+
+    pub const ARENA_LEN: usize = Self::TABLES * Self::ENTRIES;
+
+    pub const WINDOWS: usize = 4;
+    // Of alignment.
+    pub const CHECKS: usize = 6;
 
     // The layout of board code's numbers: the fields in their order, and last whether there is an image.
     pub fn of(x: &[u64; 17]) -> Self
@@ -95,7 +101,7 @@ impl Layout {
         }
     }
 
-    pub fn tables(self) -> [Table; 6]
+    pub fn tables(self) -> [Table; Self::TABLES]
         ensures { λ r. ⌜ r ≡ tablesOf self ⌝ }
     {
         [
@@ -127,7 +133,7 @@ impl Layout {
     }
 
     // Row 6's six checks, in their order.
-    pub fn checks(self) -> [Check; 6]
+    pub fn checks(self) -> [Check; Self::CHECKS]
         ensures { λ r. ⌜ r ≡ checksOf self ⌝ }
     {
         let image_pa = self.guest_image_pa;

@@ -50,10 +50,10 @@ pub fn validate_at(limit: u64, l: Layout) -> Verdict
     windows::windows(limit, windows_of(l))
 }
 
-fn all_aligned(cs: [Check; 6]) -> Verdict
+fn all_aligned(cs: [Check; Layout::CHECKS]) -> Verdict
     ensures { λ r. ⌜ outcomeOf r ≡ first (each row6 cs) ⌝ }
 {
-    for i in 0..6 {
+    for i in 0..Layout::CHECKS {
         let verdict = aligned(cs[i]);
         let Verdict::Accepted = verdict else {
             return verdict;
@@ -76,10 +76,10 @@ fn aligned(c: Check) -> Verdict
     Verdict::Accepted
 }
 
-fn all_nameable(limit: u64, ts: [Table; 6]) -> Verdict
+fn all_nameable(limit: u64, ts: [Table; Layout::TABLES]) -> Verdict
     ensures { λ r. ⌜ outcomeOf r ≡ first (each (row7 limit) ts) ⌝ }
 {
-    for i in 0..6 {
+    for i in 0..Layout::TABLES {
         let verdict = nameable(limit, ts[i]);
         let Verdict::Accepted = verdict else {
             return verdict;
@@ -106,7 +106,7 @@ fn nameable(limit: u64, t: Table) -> Verdict
 }
 
 // The four windows, of a layout that row 8 lets by: elsewhere the super's length leaves 64 bits.
-fn windows_of(l: Layout) -> [Window; 4]
+fn windows_of(l: Layout) -> [Window; Layout::WINDOWS]
     requires { ⌜ l .«sup_frames» < 2 ^ 43 ⌝ }
     ensures { λ r. ⌜ r ≡ windowsOf l ⌝ }
 {

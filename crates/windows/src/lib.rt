@@ -12,7 +12,7 @@ ghost use Rattle.refusal.specs.Table.{first, each, pairs};
 ghost use Rattle.rows.specs.Rows.{row9, row10, pairRows, windowRows};
 
 // Rows 9 and 10, each over all windows, then 11 and 12, pair by pair.
-pub fn windows(limit: u64, ws: [Window; 4]) -> Verdict
+pub fn windows(limit: u64, ws: [Window; Layout::WINDOWS]) -> Verdict
     ensures { λ r. ⌜ outcomeOf r ≡ first (windowRows limit ws) ⌝ }
 {
     let inside = all_inside(ws);
@@ -26,10 +26,10 @@ pub fn windows(limit: u64, ws: [Window; 4]) -> Verdict
     all_apart(ws)
 }
 
-fn all_inside(ws: [Window; 4]) -> Verdict
+fn all_inside(ws: [Window; Layout::WINDOWS]) -> Verdict
     ensures { λ r. ⌜ outcomeOf r ≡ first (each row9 ws) ⌝ }
 {
-    for i in 0..4 {
+    for i in 0..Layout::WINDOWS {
         let verdict = inside(ws[i]);
         let Verdict::Accepted = verdict else {
             return verdict;
@@ -58,10 +58,10 @@ fn inside(w: Window) -> Verdict
     Verdict::Accepted
 }
 
-fn all_reached(limit: u64, ws: [Window; 4]) -> Verdict
+fn all_reached(limit: u64, ws: [Window; Layout::WINDOWS]) -> Verdict
     ensures { λ r. ⌜ outcomeOf r ≡ first (each (row10 limit) ws) ⌝ }
 {
-    for i in 0..4 {
+    for i in 0..Layout::WINDOWS {
         let verdict = reached(limit, ws[i]);
         let Verdict::Accepted = verdict else {
             return verdict;
@@ -90,10 +90,10 @@ fn reached(limit: u64, w: Window) -> Verdict
     Verdict::Accepted
 }
 
-fn all_apart(ws: [Window; 4]) -> Verdict
+fn all_apart(ws: [Window; Layout::WINDOWS]) -> Verdict
     ensures { λ r. ⌜ outcomeOf r ≡ first (pairs pairRows ws) ⌝ }
 {
-    for i in 0..4 {
+    for i in 0..Layout::WINDOWS {
         let verdict = apart_from(ws[i], ws, i + 1);
         let Verdict::Accepted = verdict else {
             return verdict;
@@ -103,10 +103,10 @@ fn all_apart(ws: [Window; 4]) -> Verdict
 }
 
 // A window and those from the given one on.
-fn apart_from(w: Window, ws: [Window; 4], from: usize) -> Verdict
+fn apart_from(w: Window, ws: [Window; Layout::WINDOWS], from: usize) -> Verdict
     ensures { λ r. ⌜ outcomeOf r ≡ first (each (pairRows w) (drop from ws)) ⌝ }
 {
-    for i in from..4 {
+    for i in from..Layout::WINDOWS {
         let verdict = apart(w, ws[i]);
         let Verdict::Accepted = verdict else {
             return verdict;

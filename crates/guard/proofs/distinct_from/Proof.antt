@@ -16,7 +16,7 @@ abbrev Inv-loop : tie.InvT-loop
 Inv-loop t from ts i₀ i = first (each (row13 t) (drop from ts)) ≡ first (each (row13 t) (drop i ts))
 
 abbrev μ-loop : tie.MeasureT-loop
-μ-loop t from ts i₀ i = 6 - i
+μ-loop t from ts i₀ i = length ts - i
 
 loop-holds : tie.Need-loop-holds Inv-loop μ-loop
 loop-holds c = refl
@@ -40,7 +40,7 @@ add-i : tie.Need-add-i Inv-loop μ-loop
 add-i c = search needs
 
 loop-less : tie.Need-loop-less Inv-loop μ-loop
-loop-less c = search needs
+loop-less c = omega (arith, c .before .before .before .before .before .before .good .1 .0 .1 .0 .1)
 
 loop-again : tie.Need-loop-again Inv-loop μ-loop
 unfolding row13

@@ -16,7 +16,7 @@ abbrev Inv-loop : tie.InvT-loop
 Inv-loop limit ts i₀ i = first (each (row7 limit) ts) ≡ first (each (row7 limit) (drop i ts))
 
 abbrev μ-loop : tie.MeasureT-loop
-μ-loop limit ts i₀ i = 6 - i
+μ-loop limit ts i₀ i = length ts - i
 
 loop-holds : tie.Need-loop-holds Inv-loop μ-loop
 loop-holds c = refl
@@ -50,7 +50,7 @@ add-i : tie.Need-add-i Inv-loop μ-loop
 add-i c = search needs
 
 loop-less : tie.Need-loop-less Inv-loop μ-loop
-loop-less c = search needs
+loop-less c = omega (arith, c .before .before .before .before .before .before .good .1 .0 .1 .0 .1)
 
 loop-again : tie.Need-loop-again Inv-loop μ-loop
 loop-again c =
