@@ -54,18 +54,21 @@ pub struct Check {
 }
 
 impl Layout {
+    // What a word of level 3, 2 and 1 maps.
     pub const PAGE_SIZE: u64 = 4096;
 
     pub const BLOCK_SIZE: u64 = 512 * Self::PAGE_SIZE;
 
     pub const L1_ENTRY_SIZE: u64 = 512 * Self::BLOCK_SIZE;
+
     // The first address that the nine index bits of level 1 do not reach.
     pub const ADDRESSABLE: u64 = 512 * Self::L1_ENTRY_SIZE;
     // The first address that a descriptor cannot hold.
     pub const OUTPUT_LIMIT: u64 = 0x1_0000_0000_0000;
     // The first count of blocks whose length leaves 64 bits.
     pub const UNCOUNTABLE: u64 = 0x800_0000_0000;
-    // Words of a table, and the most that a map can name.
+
+    // The words of a table, and the most entries of a map.
     pub const ENTRIES: usize = 512;
 
     pub const TABLES: usize = 6;
@@ -73,7 +76,7 @@ impl Layout {
     pub const ARENA_LEN: usize = Self::TABLES * Self::ENTRIES;
 
     pub const WINDOWS: usize = 4;
-    // Of alignment.
+    // Row 6's.
     pub const CHECKS: usize = 6;
 
     // The layout of board code's numbers: the fields in their order, and last whether there is an image.
