@@ -8,15 +8,16 @@ use native.Mathlib.Numerals.{lt-of-le-of-ne}
 use native.Mathlib.Omega.{arith}
 use lib.Dec.{ltb}
 use borrow.Author.Tests.{ltb-true, ltb-false, leb-false, eqb-true, eqb-false, not-false, le-ltb}
+use Rattle.layout.specs.Check.{unaligned, check, checksOf}
 use Rattle.layout.specs.Layout.{tablesOf}
 use Rattle.layout.specs.Size.{l1Span, inputLimit}
-use Rattle.layout.specs.Window.{unaligned, check, checksOf, windowsOf, slot}
+use Rattle.layout.specs.Window.{windowsOf, slot}
 use Rattle.layout.specs.declared.Table.{Table}
 use Rattle.layout.specs.declared.Window.{Window}
 use Rattle.refusal.proofs.None.{none, both, test, under, each-none, pairs-none}
 use Rattle.refusal.specs.All.{All, AllPairs}
 use Rattle.refusal.specs.Table.{each, pairs}
-use Rattle.rows.specs.Rows.{row4, row5, row6, row7, row8, refusalsAt, overlap, row9, row10, row11, row12, pairRows, windowRows}
+use Rattle.rows.specs.Rows.{row4, row5, row6, row7, row8, row9, row10, row11, overlap, row12, pairRows, windowRows, refusalsAt}
 use Rattle.accepted.specs.Accepted.{Nameable, Within, Disjoint, Apart, AcceptedFacts, NoInputOverlap}
 
 neither : (a b : Bool) → (a || b) ≡ false → (a ≡ false) × (b ≡ false)

@@ -5,7 +5,6 @@ use refusal::Refusal;
 use refusal::Verdict;
 ghost use mathlib.Core.Path.{_≡_};
 ghost use lib.ListN.{drop};
-ghost use Rattle.layout.specs.Layout.{tablesOf};
 ghost use Rattle.layout.specs.Size.{outputLimit};
 ghost use Rattle.refusal.specs.Outcome.{outcomeOf};
 ghost use Rattle.refusal.specs.Table.{first, each, eachFrom, pairs};

@@ -1,3 +1,4 @@
+pub mod Check
 pub mod Layout
 pub mod Size
 pub mod Window

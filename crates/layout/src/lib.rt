@@ -1,8 +1,9 @@
 // Where the tables stand and what they map (hv-s2's arm64.rs).
 ghost use Prim.Native.Nat.{_<_};
 ghost use mathlib.Core.Path.{_≡_};
+ghost use Rattle.layout.specs.Check.{check, checksOf};
 ghost use Rattle.layout.specs.Layout.{layoutOf, imageOf, tablesOf};
-ghost use Rattle.layout.specs.Window.{check, checksOf, imageWindow, dataWindow, deviceWindow, slot};
+ghost use Rattle.layout.specs.Window.{imageWindow, dataWindow, deviceWindow, slot};
 
 // The address of the guest image, to which it is mapped itself; absent where a guest's code lies in its own memory.
 pub enum GuestImage {
@@ -78,9 +79,11 @@ impl Layout {
     pub const WINDOWS: usize = 4;
     // Row 6's.
     pub const CHECKS: usize = 6;
+    // The fields, and whether there is an image.
+    pub const NUMBERS: usize = 17;
 
     // The layout of board code's numbers: the fields in their order, and last whether there is an image.
-    pub fn of(x: &[u64; 17]) -> Self
+    pub fn of(x: &[u64; Self::NUMBERS]) -> Self
         ensures { λ r. ⌜ r ≡ layoutOf (now (x .entry)) ⌝ }
     {
         let guest_image_pa = GuestImage::of(x[16], x[6]);

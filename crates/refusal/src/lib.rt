@@ -2,7 +2,8 @@
 ghost use mathlib.Core.Path.{_≡_};
 ghost use Rattle.refusal.specs.Outcome.{outcomeOf, outcomeWords, rowWords, rowOf};
 
-// Rows 1 to 14, by the Rust's names where it has them, with the values that a refusal carries.
+// Rows 1 to 14, by the Rust's names where it has them, with the values that a refusal carries. Names are document 01's codes:
+// maps, windows and tables, and in `WindowUnaligned` row 6's checks.
 pub enum Refusal {
     ArenaLength,
     MapLength,

@@ -3,11 +3,11 @@ use mathlib.Core.List.{flatMap}
 use mathlib.Core.Path.{refl}
 use Rattle.layout.specs.Layout.{layoutOf}
 use Rattle.refusal.specs.Table.{first, eachFrom, pairs}
-use Rattle.rows.specs.Examples.{Examples, Ordered}
-use Rattle.rows.specs.Rows.{row13, row14, guardRows, arenaGuardRows, row1, row2, row3, lengthRows, mapRows, row4, row5, row6, row7, row8, refusalsAt, row9, row10, pairRows, windowRows}
+use Rattle.rows.specs.Examples.{Examples}
+use Rattle.rows.specs.Rows.{row1, row2, row3, row4, row5, row6, row7, row8, row9, row10, row13, row14, lengthRows, mapRows, pairRows, windowRows, refusalsAt, guardRows, arenaGuardRows}
 
 pub examples : Examples
-unfolding layoutOf first flatMap eachFrom pairs row1 row2 row3 row4 row5 row6 row7 row8 row9 row10 row13 row14 pairRows windowRows lengthRows mapRows refusalsAt guardRows arenaGuardRows
+unfolding layoutOf first flatMap eachFrom pairs row1 row2 row3 row4 row5 row6 row7 row8 row9 row10 row13 row14 lengthRows mapRows pairRows windowRows refusalsAt guardRows arenaGuardRows
 examples =
     record {
       S = refl;
@@ -29,25 +29,22 @@ examples =
       last-output = refl;
       no-frames = refl;
       no-frames-inside = refl;
-    }
-
-pub ordered : Ordered
-unfolding layoutOf first flatMap eachFrom pairs row1 row2 row3 row4 row5 row6 row7 row8 row9 row10 row13 row14 pairRows windowRows lengthRows mapRows refusalsAt guardRows arenaGuardRows
-ordered =
-    record {
-      one-two = refl;
-      two-three = refl;
-      three-four = refl;
-      four-five = refl;
-      five-six = refl;
-      six-seven = refl;
-      seven-eight = refl;
-      eight-nine = refl;
-      nine-ten = refl;
-      ten-eleven = refl;
-      eleven-twelve = refl;
-      pair-by-pair = refl;
-      twelve-thirteen = refl;
-      thirteen-fourteen = refl;
-      base-super = refl;
+      table-in-data = refl;
+      order = record {
+        one-two = refl;
+        two-three = refl;
+        three-four = refl;
+        four-five = refl;
+        five-six = refl;
+        six-seven = refl;
+        seven-eight = refl;
+        eight-nine = refl;
+        nine-ten = refl;
+        ten-eleven = refl;
+        eleven-twelve = refl;
+        pair-by-pair = refl;
+        twelve-thirteen = refl;
+        thirteen-fourteen = refl;
+        base-super = refl;
+      };
     }

@@ -46,6 +46,26 @@ validated x = first (refusals (layoutOf x))
 abbrev pub guarded : ℕ → List ℕ → List ℕ → List ℕ → Outcome
 guarded words base sup x = first (arenaGuardRows outputLimit (replicate words 0) base sup (layoutOf x))
 
+-- where several rows apply, the first is the answer
+pub record Ordered : Type 0 where
+  pub one-two : guarded 3071 (replicate 513 0) supS sceneS ≡ refused (row 1 [])
+  pub two-three : guarded 3072 (0 ∷ 4 ∷ []) (replicate 513 0) sceneS ≡ refused (row 2 [])
+  pub three-four : guarded 3072 baseS (4 ∷ []) (line 0xE 4096 sceneS) ≡ refused (row 3 (2 ∷ 0 ∷ []))
+  pub four-five : validated (line 0xE 4096 (line 0xA 0 sceneS)) ≡ refused (row 4 (0x900_0000 ∷ 4096 ∷ []))
+  pub five-six : validated (line 0xA 0 (line 8 1 sceneS)) ≡ refused (row 5 (0 ∷ []))
+  pub six-seven : validated (line 8 1 (line 1 1 sceneS)) ≡ refused (row 6 (1 ∷ 1 ∷ block ∷ []))
+  pub seven-eight : validated (line 1 1 (line 0x10 (2 ^ 43) sceneS)) ≡ refused (row 7 (1 ∷ 1 ∷ []))
+  pub eight-nine : validated (line 0x10 (2 ^ 43) (line 8 (2 ^ 39) sceneS)) ≡ refused (row 8 (2 ^ 43 ∷ []))
+  pub nine-ten : validated (line 0x10 513 (line 9 (2 ^ 48) sceneS)) ≡ refused (row 9 (3 ∷ 513 * block ∷ []))
+  pub ten-eleven : validated (line 0xC (2 ^ 48) (line 0xB 0x8020_0000 sceneS)) ≡ refused (row 10 (3 ∷ 2 ^ 48 ∷ []))
+  pub eleven-twelve : validated (line 0xB 0x8020_0000 (line 0xC 0x5000_0000 sceneS)) ≡ refused (row 11 (2 ∷ []))
+  pub pair-by-pair : validated (line 0xC 0x5000_0000 (line 0xD 0xC080_0000 sceneS)) ≡ refused (row 12 [])
+  pub twelve-thirteen :
+      guarded 3072 baseS supS (line 0xC 0x5000_0000 (line 6 0x4000_0000 sceneS)) ≡ refused (row 12 [])
+  pub thirteen-fourteen :
+      guarded 3072 baseS (0 ∷ 0 ∷ 0 ∷ 0 ∷ 1 ∷ []) (line 6 0x4000_0000 sceneS) ≡ refused (row 13 (1 ∷ 6 ∷ []))
+  pub base-super : guarded 3072 (4 ∷ []) (4 ∷ []) sceneS ≡ refused (row 3 (1 ∷ 0 ∷ []))
+
 pub record Examples : Type 0 where
   pub S : guarded 3072 baseS supS sceneS ≡ accepted
   pub row1 : guarded 3071 baseS supS sceneS ≡ refused (row 1 [])
@@ -68,23 +88,6 @@ pub record Examples : Type 0 where
   -- strictly inside data's output range
   pub no-frames-inside :
       validated (line 0x10 0 (line 0xC 0x5020_0000 (line 9 0x5000_1000 sceneS))) ≡ refused (row 12 [])
-
--- where several rows apply, the first is the answer
-pub record Ordered : Type 0 where
-  pub one-two : guarded 3071 (replicate 513 0) supS sceneS ≡ refused (row 1 [])
-  pub two-three : guarded 3072 (0 ∷ 4 ∷ []) (replicate 513 0) sceneS ≡ refused (row 2 [])
-  pub three-four : guarded 3072 baseS (4 ∷ []) (line 0xE 4096 sceneS) ≡ refused (row 3 (2 ∷ 0 ∷ []))
-  pub four-five : validated (line 0xE 4096 (line 0xA 0 sceneS)) ≡ refused (row 4 (0x900_0000 ∷ 4096 ∷ []))
-  pub five-six : validated (line 0xA 0 (line 8 1 sceneS)) ≡ refused (row 5 (0 ∷ []))
-  pub six-seven : validated (line 8 1 (line 1 1 sceneS)) ≡ refused (row 6 (1 ∷ 1 ∷ block ∷ []))
-  pub seven-eight : validated (line 1 1 (line 0x10 (2 ^ 43) sceneS)) ≡ refused (row 7 (1 ∷ 1 ∷ []))
-  pub eight-nine : validated (line 0x10 (2 ^ 43) (line 8 (2 ^ 39) sceneS)) ≡ refused (row 8 (2 ^ 43 ∷ []))
-  pub nine-ten : validated (line 0x10 513 (line 9 (2 ^ 48) sceneS)) ≡ refused (row 9 (3 ∷ 513 * block ∷ []))
-  pub ten-eleven : validated (line 0xC (2 ^ 48) (line 0xB 0x8020_0000 sceneS)) ≡ refused (row 10 (3 ∷ 2 ^ 48 ∷ []))
-  pub eleven-twelve : validated (line 0xB 0x8020_0000 (line 0xC 0x5000_0000 sceneS)) ≡ refused (row 11 (2 ∷ []))
-  pub pair-by-pair : validated (line 0xC 0x5000_0000 (line 0xD 0xC080_0000 sceneS)) ≡ refused (row 12 [])
-  pub twelve-thirteen :
-      guarded 3072 baseS supS (line 0xC 0x5000_0000 (line 6 0x4000_0000 sceneS)) ≡ refused (row 12 [])
-  pub thirteen-fourteen :
-      guarded 3072 baseS (0 ∷ 0 ∷ 0 ∷ 0 ∷ 1 ∷ []) (line 6 0x4000_0000 sceneS) ≡ refused (row 13 (1 ∷ 6 ∷ []))
-  pub base-super : guarded 3072 (4 ∷ []) (4 ∷ []) sceneS ≡ refused (row 3 (1 ∷ 0 ∷ []))
+  -- no row compares tables with outputs
+  pub table-in-data : validated (line 9 0x4000_0000 sceneS) ≡ accepted
+  pub order : Ordered

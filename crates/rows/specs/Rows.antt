@@ -4,9 +4,10 @@ use mathlib.Core.Bool.{Bool, not, _&&_, _||_}
 use mathlib.Core.List.{List, [], _∷_, _++_}
 use lib.Dec.{eqb, leb, ltb}
 use lib.ListN.{length}
+use Rattle.layout.specs.Check.{unaligned, checksOf}
 use Rattle.layout.specs.Layout.{tablesOf}
 use Rattle.layout.specs.Size.{entries, page, block, l1Span, inputLimit, outputLimit, arenaLength}
-use Rattle.layout.specs.Window.{unaligned, checksOf, windowsOf, slot}
+use Rattle.layout.specs.Window.{windowsOf, slot}
 use Rattle.layout.specs.declared.Check.{Check}
 use Rattle.layout.specs.declared.Layout.{Layout}
 use Rattle.layout.specs.declared.Table.{Table}
@@ -33,7 +34,7 @@ row4 l = refuseIf (unaligned (l .«device_len») block) 4 (l .«device_base» �
 unfoldable pub row5 : Layout → List Row
 row5 l = refuseIf (not (eqb (l .«frame_size») page)) 5 (l .«frame_size» ∷ [])
 
--- row 6: window unaligned, one of six checks
+-- row 6: window unaligned (data pa 4,096, others 2 MiB; device if length above 0): one of `checksOf`'s six
 unfoldable pub row6 : Check → List Row
 row6 c = refuseIf (c .fails) 6 (c .code ∷ c .base ∷ c .align ∷ [])
 
@@ -106,7 +107,7 @@ refusalsAt limit l =
 abbrev pub refusals : Layout → List Row
 refusals l = refusalsAt outputLimit l
 
--- encoding and updates: 1, 2 and 3, then 4 to 12, then 13, then 14
+-- where no arena is lent: 2 and 3, then 4 to 12, then 13, then 14
 unfoldable pub guardRows : ℕ → List ℕ → List ℕ → Layout → List Row
 guardRows limit base sup l =
     table
@@ -116,5 +117,6 @@ guardRows limit base sup l =
     ∷ eachFrom (row14 (l .«sup_frames»)) 0 sup
     ∷ [])
 
+-- encoding and updates: 1, then the others
 unfoldable pub arenaGuardRows : ℕ → List ℕ → List ℕ → List ℕ → Layout → List Row
 arenaGuardRows limit arena base sup l = table (row1 arena ∷ guardRows limit base sup l ∷ [])

@@ -5,7 +5,7 @@ use mathlib.Core.Path.{_≡_, refl, sym, _∙_}
 use native.Mathlib.Omega.{arith}
 use lib.ListN.{length, drop}
 use borrow.Author.Needs.{needs}
-use Rattle.layout.specs.Window.{check}
+use Rattle.layout.specs.Check.{check}
 use Rattle.refusal.proofs.First.{next, stop}
 use Rattle.refusal.proofs.Parts.{each-at, each-end}
 use Rattle.refusal.specs.Table.{first, each}

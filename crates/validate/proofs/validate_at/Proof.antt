@@ -4,8 +4,9 @@ use mathlib.Core.List.{List, [], _∷_, flatMap}
 use mathlib.Core.Path.{_≡_, _∙_, refl, sym, ap}
 use borrow.Author.Needs.{needs}
 use borrow.Author.Tests.{eq-eqb, ne-eqb, le-leb, lt-leb}
+use Rattle.layout.specs.Check.{checksOf}
 use Rattle.layout.specs.Layout.{tablesOf}
-use Rattle.layout.specs.Window.{checksOf, windowsOf}
+use Rattle.layout.specs.Window.{windowsOf}
 use Rattle.layout.specs.declared.Layout.{Layout}
 use Rattle.refusal.proofs.First.{next, stop, last}
 use Rattle.refusal.specs.Outcome.{outcomeOf}
