@@ -1,7 +1,8 @@
--- Answers as numbers, for the comparison with the Rust.
+-- Yes or no as a number, and answers as eight of them.
 use Prim.Native.Nat.{ℕ, _%_, _^_}
-use mathlib.Core.Bool.{Bool}
+use mathlib.Core.Bool.{Bool, not}
 use mathlib.Core.List.{List, _++_}
+use lib.Dec.{eqb}
 use lib.ListN.{take, replicate}
 use mir.Val.{boolByte}
 
@@ -12,6 +13,10 @@ eight xs = take 8 (xs ++ replicate 8 0)
 -- no is 0, yes is 1
 abbrev pub bit : Bool → ℕ
 bit = boolByte
+
+-- of what passes as a number, zero is no and all else yes
+abbrev pub nonzero : ℕ → Bool
+nonzero n = not (eqb n 0)
 
 -- a 32-bit number
 abbrev pub low : ℕ → ℕ

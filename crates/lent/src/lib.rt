@@ -5,7 +5,7 @@ use refusal::Verdict;
 ghost use mathlib.Core.Path.{_≡_};
 ghost use Rattle.refusal.specs.Outcome.{outcomeOf};
 ghost use Rattle.refusal.specs.Table.{first, eachFrom};
-ghost use Rattle.rows.specs.Rows.{row1, row2, row3, lengthRows, mapRows};
+ghost use Rattle.rows.specs.Rows.{row1, row2, row3, readRows, lengthRows, mapRows};
 
 // Row 1.
 pub fn arena_len(arena: &[u64]) -> Verdict
@@ -40,6 +40,17 @@ pub fn map_codes(code: u64, map: &[u8]) -> Verdict
         }
     }
     Verdict::Accepted
+}
+
+// Rows 2 and 3, of one map that is read.
+pub fn read_map(code: u64, map: &[u8]) -> Verdict
+    ensures { λ r. ⌜ outcomeOf r ≡ first (readRows code (now (map .entry))) ⌝ }
+{
+    let short = map_len(map);
+    let Verdict::Accepted = short else {
+        return short;
+    };
+    map_codes(code, map)
 }
 
 // Row 2, of both maps.

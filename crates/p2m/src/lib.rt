@@ -1,5 +1,4 @@
-// Frame kinds, owners and the records of page-table edges and grants (hv-core's p2m.rs), and the span of a table's leaves
-// (hv-s2's leafmap.rs).
+// Frame kinds and owners (hv-core's p2m.rs), and the span of a table's leaves (hv-s2's leafmap.rs).
 ghost use mathlib.Core.Path.{_≡_};
 ghost use Rattle.p2m.specs.Frame.{kindOf, levelOfKind, typeCode, levelOfType, childType, spanCode, spanOfKind, ownerOf, kindAt};
 
@@ -45,24 +44,6 @@ pub enum TableSpan {
 pub enum Owner {
     Domain(u16),
     Nobody,
-}
-
-// A page-table entry: slot `slot` of table `parent` references `child`.
-pub struct Edge {
-    pub parent: u32,
-    pub slot: u32,
-    pub child: u32,
-    pub writable: bool,
-    pub leaf: bool,
-    pub execute: bool,
-}
-
-// The owner `grantor` lets `grantee` reach `frame`. Both are owner numbers.
-pub struct Grant {
-    pub grantor: u32,
-    pub grantee: u32,
-    pub frame: u32,
-    pub writable: bool,
 }
 
 impl PtLevel {

@@ -4,7 +4,7 @@ use mathlib.Core.List.{List, [], _∷_}
 use Rattle.fields.specs.Numbers.{eight}
 use Rattle.refusal.specs.Table.{Row, row, Outcome, accepted, refused}
 use Rattle.refusal.specs.declared.Refusal.{Refusal}
-use Rattle.refusal.specs.declared.Refusal.the-variants.{ArenaLength, MapLength, MapCode, DeviceWindowUnaligned, GranuleNotEmitted, WindowUnaligned, TableUnnameable, SuperFramesUncountable, RegionCrossesL1, OutputPastLimit, RegionsCollide, WindowsOverlap, TablesEqual, SuperUnbacked}
+use Rattle.refusal.specs.declared.Refusal.the-variants.{ArenaLength, MapLength, MapCode, DeviceWindowUnaligned, GranuleNotEmitted, WindowUnaligned, TableUnnameable, SuperFramesUncountable, RegionCrossesL1, OutputPastLimit, RegionsCollide, WindowsOverlap, TablesEqual, SuperUnbacked, UnsupportedSpan, OutOfRange, SpanConflict, UnauthorizedMapping, WriteEscalation, Inexact}
 use Rattle.refusal.specs.declared.Verdict.{Verdict}
 use Rattle.refusal.specs.declared.Verdict.the-variants.{Accepted, Refused}
 
@@ -23,6 +23,12 @@ rowOf (RegionsCollide index) = row 11 (index ∷ [])
 rowOf WindowsOverlap = row 12 []
 rowOf (TablesEqual first second) = row 13 (first ∷ second ∷ [])
 rowOf (SuperUnbacked position) = row 14 (position ∷ [])
+rowOf (UnsupportedSpan parent) = row 15 (parent ∷ [])
+rowOf (OutOfRange mfn capacity) = row 16 (mfn ∷ capacity ∷ [])
+rowOf (SpanConflict mfn) = row 17 (mfn ∷ [])
+rowOf (UnauthorizedMapping dom mfn owner perm) = row 23 (dom ∷ mfn ∷ owner ∷ perm ∷ [])
+rowOf (WriteEscalation dom mfn owner) = row 24 (dom ∷ mfn ∷ owner ∷ [])
+rowOf (Inexact dom mfn mapped expected) = row 25 (dom ∷ mfn ∷ mapped ∷ expected ∷ [])
 
 abbrev pub outcomeOf : Verdict → Outcome
 outcomeOf Accepted = accepted

@@ -2,23 +2,81 @@
 ghost use mathlib.Core.Path.{_≡_};
 ghost use Rattle.refusal.specs.Outcome.{outcomeOf, outcomeWords, rowWords, rowOf};
 
-// Rows 1 to 14, by the Rust's names where it has them, with the values that a refusal carries. Names are document 01's codes:
-// maps, windows and tables, and in `WindowUnaligned` row 6's checks.
+// Rows 1 to 17 and 23 to 25, by the Rust's names where it has them, with the values that a refusal carries. Names are document 01's
+// codes: maps, windows and tables, and in `WindowUnaligned` row 6's checks. An owner is an owner number, 65,536 where there is none; a
+// permission is an entry of a map.
 pub enum Refusal {
     ArenaLength,
     MapLength,
-    MapCode { map: u64, position: u64 },
-    DeviceWindowUnaligned { base: u64, len: u64 },
-    GranuleNotEmitted { frame_size: u64 },
-    WindowUnaligned { window: u64, base: u64, align: u64 },
-    TableUnnameable { table: u64, pa: u64 },
-    SuperFramesUncountable { count: u64 },
-    RegionCrossesL1 { l1_index: u64, span: u64 },
-    OutputPastLimit { window: u64, base: u64 },
-    RegionsCollide { l1_index: u64 },
+    MapCode {
+        map: u64,
+        position: u64,
+    },
+    DeviceWindowUnaligned {
+        base: u64,
+        len: u64,
+    },
+    GranuleNotEmitted {
+        frame_size: u64,
+    },
+    WindowUnaligned {
+        window: u64,
+        base: u64,
+        align: u64,
+    },
+    TableUnnameable {
+        table: u64,
+        pa: u64,
+    },
+    SuperFramesUncountable {
+        count: u64,
+    },
+    RegionCrossesL1 {
+        l1_index: u64,
+        span: u64,
+    },
+    OutputPastLimit {
+        window: u64,
+        base: u64,
+    },
+    RegionsCollide {
+        l1_index: u64,
+    },
     WindowsOverlap,
-    TablesEqual { first: u64, second: u64 },
-    SuperUnbacked { position: u64 },
+    TablesEqual {
+        first: u64,
+        second: u64,
+    },
+    SuperUnbacked {
+        position: u64,
+    },
+    UnsupportedSpan {
+        parent: u64,
+    },
+    OutOfRange {
+        mfn: u64,
+        capacity: u64,
+    },
+    SpanConflict {
+        mfn: u64,
+    },
+    UnauthorizedMapping {
+        dom: u64,
+        mfn: u64,
+        owner: u64,
+        perm: u64,
+    },
+    WriteEscalation {
+        dom: u64,
+        mfn: u64,
+        owner: u64,
+    },
+    Inexact {
+        dom: u64,
+        mfn: u64,
+        mapped: u64,
+        expected: u64,
+    },
 }
 
 pub enum Verdict {
@@ -62,6 +120,22 @@ impl Refusal {
             Refusal::WindowsOverlap => [12, 0, 0, 0, 0, 0, 0, 0],
             Refusal::TablesEqual { first, second } => [13, first, second, 0, 0, 0, 0, 0],
             Refusal::SuperUnbacked { position } => [14, position, 0, 0, 0, 0, 0, 0],
+            Refusal::UnsupportedSpan { parent } => [15, parent, 0, 0, 0, 0, 0, 0],
+            Refusal::OutOfRange { mfn, capacity } => [16, mfn, capacity, 0, 0, 0, 0, 0],
+            Refusal::SpanConflict { mfn } => [17, mfn, 0, 0, 0, 0, 0, 0],
+            Refusal::UnauthorizedMapping {
+                dom,
+                mfn,
+                owner,
+                perm,
+            } => [23, dom, mfn, owner, perm, 0, 0, 0],
+            Refusal::WriteEscalation { dom, mfn, owner } => [24, dom, mfn, owner, 0, 0, 0, 0],
+            Refusal::Inexact {
+                dom,
+                mfn,
+                mapped,
+                expected,
+            } => [25, dom, mfn, mapped, expected, 0, 0, 0],
         }
     }
 }

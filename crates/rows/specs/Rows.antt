@@ -84,6 +84,10 @@ lengthRows base sup = table (row2 base ∷ row2 sup ∷ [])
 unfoldable pub mapRows : List ℕ → List ℕ → List Row
 mapRows base sup = table (lengthRows base sup ∷ eachFrom (row3 1) 0 base ∷ eachFrom (row3 2) 0 sup ∷ [])
 
+-- one map that is read, by its code
+unfoldable pub readRows : ℕ → List ℕ → List Row
+readRows code map = table (row2 map ∷ eachFrom (row3 code) 0 map ∷ [])
+
 -- 11 and 12 of a pair, if both windows are present
 unfoldable pub pairRows : Window → Window → List Row
 pairRows v w = given (v .present && w .present) (row11 v w ++ row12 v w)

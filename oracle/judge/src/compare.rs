@@ -2,15 +2,20 @@
 
 use std::fmt::{self, Display, Formatter};
 
-use crate::function::{faults, functions, Fault, Function, Input, Layer, LAYOUTS, SCENES, WORDS};
-use crate::inputs::{hex, Words};
+use crate::function::{
+    faults, functions, Fault, Function, Input, Layer, Reply, FILLINGS, GRANTED, LAYOUTS, LINKED,
+    SCENES, WORDS,
+};
 use crate::tally::Tally;
 
 /// Compares every function, with a fault on the port's side if one is named.
 pub fn compare_all(scale: usize, fault: Option<&str>) -> Result<(), String> {
     let inputs = compare_layers(&WORDS, scale, fault)?
         + compare_layers(&LAYOUTS, scale, fault)?
-        + compare_layers(&SCENES, scale, fault)?;
+        + compare_layers(&SCENES, scale, fault)?
+        + compare_layers(&FILLINGS, scale, fault)?
+        + compare_layers(&GRANTED, scale, fault)?
+        + compare_layers(&LINKED, scale, fault)?;
     println!("{inputs} inputs compared, no difference");
     Ok(())
 }
@@ -45,7 +50,7 @@ pub fn compare<I: Input>(
     for input in function.inputs(scale) {
         let original = (function.original)(&input);
         let unaltered = input.port(function.op);
-        let mut port = unaltered;
+        let mut port = unaltered.clone();
         if let Some(fault) = fault {
             (fault.alter)(&input, &mut port);
         }
@@ -53,12 +58,12 @@ pub fn compare<I: Input>(
             return Err(Box::new(Difference {
                 function: function.name,
                 input: input.shown(),
-                original,
-                port,
+                original: original.shown(),
+                port: port.shown(),
                 seeded: original == unaltered,
             }));
         }
-        tally.count(&original);
+        tally.count(original.words());
     }
     Ok(tally)
 }
@@ -66,8 +71,8 @@ pub fn compare<I: Input>(
 pub struct Difference {
     pub function: &'static str,
     pub input: String,
-    original: Words,
-    port: Words,
+    original: String,
+    port: String,
     /// Whether the port without the fault has no difference here.
     pub seeded: bool,
 }
@@ -76,7 +81,7 @@ impl Display for Difference {
     fn fmt(&self, f: &mut Formatter) -> fmt::Result {
         writeln!(f, "{} differs", self.function)?;
         writeln!(f, "  input    {}", self.input)?;
-        writeln!(f, "  original {}", hex(&self.original))?;
-        write!(f, "  port     {}", hex(&self.port))
+        writeln!(f, "  original {}", self.original)?;
+        write!(f, "  port     {}", self.port)
     }
 }

@@ -1,5 +1,8 @@
 //! What the comparison knows of a function, and the layers that the functions come from.
 
+use crate::authorized::{self, Granted};
+use crate::exact::{self, Linked};
+use crate::fill::{self, Filling};
 use crate::guard::{self, Scene};
 use crate::inputs::{few_codes, hex, many_codes, one, Inputs, Words};
 use crate::layout::{self, Fields};
@@ -10,18 +13,39 @@ use crate::{absent, desc, p2m, regime};
 pub trait Input: 'static {
     /// What tells the function from others of the same input.
     type Op: Copy + PartialEq + Sync;
+    /// All that the function leaves behind.
+    type Reply: Reply;
     /// How many inputs of a comparison must have each kind of answer.
     const LEAST: u64;
 
-    /// The port's answer.
-    fn port(&self, op: Self::Op) -> Words;
+    /// The port's reply.
+    fn port(&self, op: Self::Op) -> Self::Reply;
 
     /// The input as it is printed.
     fn shown(&self) -> String;
 }
 
+/// The eight words of an answer, with what a function stores besides.
+pub trait Reply: Clone + PartialEq {
+    fn words(&self) -> &Words;
+
+    /// The reply as it is printed.
+    fn shown(&self) -> String;
+}
+
+impl Reply for Words {
+    fn words(&self) -> &Words {
+        self
+    }
+
+    fn shown(&self) -> String {
+        hex(self)
+    }
+}
+
 impl Input for Words {
     type Op = u32;
+    type Reply = Words;
     const LEAST: u64 = 1;
 
     fn port(&self, op: u32) -> Words {
@@ -38,9 +62,9 @@ pub struct Function<I: Input = Words> {
     pub name: &'static str,
     /// For `probe`, its number.
     pub op: I::Op,
-    /// The answer that is due, the unchanged Rust's where it has one, in the words that the port
+    /// The reply that is due, the unchanged Rust's where it has one, in the words that the port
     /// writes.
-    pub original: fn(&I) -> Words,
+    pub original: fn(&I) -> I::Reply,
     /// Inputs around which the answer changes. They are few: all of them are recorded.
     pub boundary: fn() -> Inputs<I>,
     /// All other inputs, with the number of random ones multiplied as given.
@@ -60,8 +84,8 @@ pub struct Fault<I: Input = Words> {
     /// What the slip is.
     pub slip: &'static str,
     pub op: I::Op,
-    /// Turns the port's answer to an input into that of a port with the slip.
-    pub alter: fn(&I, &mut Words),
+    /// Turns the port's reply to an input into that of a port with the slip.
+    pub alter: fn(&I, &mut I::Reply),
 }
 
 pub struct Layer<I: Input = Words> {
@@ -78,6 +102,15 @@ pub static LAYOUTS: [Layer<Fields>; 1] = [layout::LAYER];
 /// The functions of a layout with an arena and two maps.
 pub static SCENES: [Layer<Scene>; 1] = [guard::LAYER];
 
+/// The functions that fill two maps from edges.
+pub static FILLINGS: [Layer<Filling>; 1] = [fill::LAYER];
+
+/// The functions that check a map against grants.
+pub static GRANTED: [Layer<Granted>; 1] = [authorized::LAYER];
+
+/// The functions that check a map against edges.
+pub static LINKED: [Layer<Linked>; 1] = [exact::LAYER];
+
 pub fn functions<I: Input>(
     layers: &'static [Layer<I>],
 ) -> impl Iterator<Item = &'static Function<I>> {
@@ -90,12 +123,16 @@ pub fn faults<I: Input>(layers: &'static [Layer<I>]) -> impl Iterator<Item = &'s
 
 /// The names of all faults, in the order of the self-test.
 pub fn fault_names() -> impl Iterator<Item = &'static str> {
-    let layouts = faults(&LAYOUTS).map(|fault| fault.name);
-    let scenes = faults(&SCENES).map(|fault| fault.name);
-    faults(&WORDS)
-        .map(|fault| fault.name)
-        .chain(layouts)
-        .chain(scenes)
+    names(&WORDS)
+        .chain(names(&LAYOUTS))
+        .chain(names(&SCENES))
+        .chain(names(&FILLINGS))
+        .chain(names(&GRANTED))
+        .chain(names(&LINKED))
+}
+
+fn names<I: Input>(layers: &'static [Layer<I>]) -> impl Iterator<Item = &'static str> {
+    faults(layers).map(|fault| fault.name)
 }
 
 impl Function {

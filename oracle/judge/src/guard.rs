@@ -11,6 +11,7 @@ use crate::guard_faults::FAULTS;
 use crate::guard_inputs::{changed_scenes, scenes};
 use crate::inputs::{hex, words, Words};
 use crate::layout::{self, pairs, row, Fields, ACCEPTED, LEAST, SUP_FRAMES, TABLES};
+use crate::maps;
 use crate::port;
 
 /// A layout with what is lent beside it.
@@ -23,9 +24,8 @@ pub struct Scene {
     pub fields: Fields,
 }
 
-/// The words of an arena, and the most entries of a map.
+/// The words of an arena.
 pub const ARENA_LEN: usize = 3_072;
-pub const MAP_LEN: usize = 512;
 
 pub const LAYER: Layer<Scene> = Layer {
     functions: &[Function {
@@ -60,6 +60,7 @@ const ANSWERS: &[Answer] = &[
 
 impl Input for Scene {
     type Op = ();
+    type Reply = Words;
     const LEAST: u64 = LEAST;
 
     fn port(&self, (): ()) -> Words {
@@ -86,16 +87,12 @@ fn row_1(scene: &Scene) -> Option<Words> {
 }
 
 pub fn row_2(scene: &Scene) -> Option<Words> {
-    let too_long = |map: &[u8]| map.len() > MAP_LEN;
-    (too_long(&scene.base) || too_long(&scene.sup)).then_some(words([2]))
+    let too_long = maps::too_long(&scene.base) || maps::too_long(&scene.sup);
+    too_long.then_some(words([2]))
 }
 
 fn row_3(scene: &Scene) -> Option<Words> {
-    let in_map = |code, map: &[u8]| {
-        let place = map.iter().position(|byte| *byte > 3)?;
-        Some(words([3, code, place as u64]))
-    };
-    in_map(1, &scene.base).or_else(|| in_map(2, &scene.sup))
+    maps::row_3(1, &scene.base).or_else(|| maps::row_3(2, &scene.sup))
 }
 
 pub fn row_13(x: &Fields) -> Option<Words> {
@@ -112,7 +109,7 @@ pub fn row_14(scene: &Scene) -> Option<Words> {
 
 impl Display for Scene {
     fn fmt(&self, f: &mut Formatter) -> fmt::Result {
-        let (base, sup) = (entries(&self.base), entries(&self.sup));
+        let (base, sup) = (maps::shown(&self.base), maps::shown(&self.sup));
         let fields = hex(&self.fields);
         let arena_len = self.arena_len;
         write!(
@@ -120,11 +117,4 @@ impl Display for Scene {
             "arena {arena_len}, base {base}, super {sup}, layout {fields}"
         )
     }
-}
-
-/// The length of a map, and those of its entries that are not zero.
-fn entries(map: &[u8]) -> String {
-    let mapped = map.iter().enumerate().filter(|(_, byte)| **byte != 0);
-    let mapped = mapped.map(|(place, byte)| format!(" {place}:{byte}"));
-    format!("{}{}", map.len(), mapped.collect::<String>())
 }

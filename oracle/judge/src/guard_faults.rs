@@ -1,9 +1,10 @@
 //! Slips of a port's guard, at least one for each of rows 1, 2, 3, 13 and 14.
 
 use crate::function::Fault;
-use crate::guard::{row_13, row_14, row_2, Scene, ARENA_LEN, MAP_LEN};
+use crate::guard::{row_13, row_14, row_2, Scene, ARENA_LEN};
 use crate::inputs::{altered, words, Words};
 use crate::layout::{pairs, ACCEPTED, IMAGE_PRESENT, L2_CODE, SUP_FRAMES, TABLES};
+use crate::maps::MAP_LEN;
 use crate::port;
 
 pub const FAULTS: &[Fault<Scene>] = &[

@@ -1,9 +1,11 @@
 //! Scenes that the guard refuses by one or more of its rows, and accepted ones.
 
-use crate::guard::{Scene, ARENA_LEN, MAP_LEN};
+use crate::guard::{Scene, ARENA_LEN};
 use crate::inputs::{altered, random, Random};
 use crate::layout::{Fields, L1, L2_CODE, L2_DATA, L2_DEV, L2_SUP, SUP_FRAMES, TABLES};
 use crate::layout_inputs::{accepted, examples, moved};
+use crate::map_inputs::{map, set, spoil};
+use crate::maps::MAP_LEN;
 
 /// Changes of scene S around each row that `validate` does not have.
 const CHANGES: &[fn(&mut Scene)] = &[
@@ -55,13 +57,6 @@ fn scene(fields: Fields) -> Scene {
     }
 }
 
-/// Sets an entry if the map has it.
-fn set(map: &mut [u8], place: usize, byte: u8) {
-    if let Some(entry) = map.get_mut(place) {
-        *entry = byte;
-    }
-}
-
 pub fn scenes(scale: usize) -> impl Iterator<Item = Scene> {
     random(Random(17), 200_000 * scale, random_scene)
 }
@@ -94,27 +89,6 @@ fn arena_len(random: &mut Random) -> usize {
     }
 }
 
-/// A map of any length, in which some entries or most are mapped.
-fn map(random: &mut Random) -> Vec<u8> {
-    let len = match random.below(16) {
-        0 => random.pick(&[513, 514]),
-        1..=6 => random.pick(&[0, 1, 511, 512]),
-        _ => random.below(513),
-    };
-    let dense = random.below(2) == 0;
-    let mut entries = || match dense {
-        true => random.word(),
-        false => random.sparse(),
-    };
-    let eight = || (entries() & 0x0303_0303_0303_0303).to_le_bytes();
-    let mut map: Vec<u8> = std::iter::repeat_with(eight)
-        .take(len.div_ceil(8) as usize)
-        .flatten()
-        .collect();
-    map.truncate(len as usize);
-    map
-}
-
 /// Gives two tables, or three, one address.
 fn equate_tables(random: &mut Random, scene: &mut Scene) {
     let any = |random: &mut Random| random.below(TABLES.end as u64) as usize;
@@ -140,15 +114,5 @@ fn place_supers(random: &mut Random, scene: &mut Scene) {
         2 => set(&mut scene.sup, frames.saturating_sub(1), byte),
         3 => set(&mut scene.sup, random.below(MAP_LEN as u64) as usize, byte),
         _ => (),
-    }
-}
-
-/// Now and then, plants bytes that are no permissions.
-fn spoil(random: &mut Random, map: &mut [u8]) {
-    if random.below(16) == 0 && !map.is_empty() {
-        for _ in 0..=random.below(2) {
-            let place = random.below(map.len() as u64) as usize;
-            map[place] = random.pick(&[4, 5, 128, 255]) as u8;
-        }
     }
 }

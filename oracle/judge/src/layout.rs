@@ -83,6 +83,7 @@ pub const LEAST: u64 = 1_000;
 
 impl Input for Fields {
     type Op = ();
+    type Reply = Words;
     const LEAST: u64 = LEAST;
 
     fn port(&self, (): ()) -> Words {

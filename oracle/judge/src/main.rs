@@ -1,8 +1,18 @@
 //! Compares the port with its Rust original, compiled unchanged.
 
 mod absent;
+mod authorized;
+mod authorized_faults;
+mod authorized_inputs;
 mod compare;
 mod desc;
+mod exact;
+mod exact_faults;
+mod exact_inputs;
+mod fenced;
+mod fill;
+mod fill_faults;
+mod fill_inputs;
 mod function;
 mod guard;
 mod guard_faults;
@@ -12,9 +22,14 @@ mod layout;
 mod layout_edges;
 mod layout_faults;
 mod layout_inputs;
+mod map_inputs;
+mod maps;
 mod p2m;
 mod port;
+mod port_maps;
 mod record;
+mod record_inputs;
+mod records;
 mod regime;
 mod self_test;
 mod tally;

@@ -7,6 +7,7 @@ use hv_s2::leafmap::{span_of_table, Span};
 use crate::function::{Answer, Fault, Function, Layer};
 use crate::inputs::{altered, every, random, words, Random, Words, NOTHING};
 use crate::port;
+use crate::records::Frame;
 
 const FRAME: u32 = 0;
 const LEVEL: u32 = 1;
@@ -14,7 +15,7 @@ const PAGE_TYPE: u32 = 2;
 
 /// Every `DomId` is a domain. The first number past them stands for nobody.
 const DOMAINS: usize = 1 << 16;
-const NOBODY: u64 = 1 << 16;
+pub const NOBODY: u64 = 1 << 16;
 
 pub const LAYER: Layer = Layer {
     functions: FUNCTIONS,
@@ -60,22 +61,9 @@ const LEVEL_ANSWERS: &[Answer] = &[
     ("L4", |answer| answer[0] == 5),
 ];
 
-/// A frame as the port has it: an owner number and a kind.
-#[derive(Clone, Copy)]
-struct Row {
-    owner: u32,
-    kind: u32,
-}
-
-impl Row {
-    fn domain(self) -> Option<DomId> {
-        self.owner.try_into().ok()
-    }
-}
-
-fn rows(x: &Words) -> Vec<Row> {
+fn rows(x: &Words) -> Vec<Frame> {
     let count = x[6].min(3) as usize;
-    let row = |row: &[u64]| Row {
+    let row = |row: &[u64]| Frame {
         owner: row[0] as u32,
         kind: row[1] as u32,
     };
@@ -83,7 +71,7 @@ fn rows(x: &Words) -> Vec<Row> {
 }
 
 /// The row of the frame that is asked about.
-fn asked(x: &Words) -> Option<Row> {
+fn asked(x: &Words) -> Option<Frame> {
     rows(x).get(x[7] as u32 as usize).copied()
 }
 
@@ -124,7 +112,7 @@ fn kind(x: &Words) -> u64 {
     asked(x).map_or(0, |row| row.kind.into())
 }
 
-fn system(rows: &[Row]) -> System {
+fn system(rows: &[Frame]) -> System {
     let mut system = System::new(DOMAINS, rows.len());
     for (mfn, row) in rows.iter().enumerate() {
         if let Some(owner) = row.domain() {
@@ -178,7 +166,7 @@ fn kind_of(level: PtLevel) -> u64 {
     }
 }
 
-fn type_of(code: u32) -> Option<PageType> {
+pub fn type_of(code: u32) -> Option<PageType> {
     match code {
         1 => Some(PageType::Writable),
         _ => level_of(code).map(PageType::PageTable),

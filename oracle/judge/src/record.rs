@@ -69,7 +69,7 @@ impl Record {
         }
     }
 
-    fn add<I: Input>(
+    fn add<I: Input<Reply = Words>>(
         &mut self,
         function: &Function<I>,
         inputs: impl Iterator<Item = I>,

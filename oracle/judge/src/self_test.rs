@@ -2,11 +2,17 @@
 
 use crate::compare::{compare, Difference};
 use crate::function::{
-    fault_names, faults, functions, Fault, Input, Layer, LAYOUTS, SCENES, WORDS,
+    fault_names, faults, functions, Fault, Input, Layer, FILLINGS, GRANTED, LAYOUTS, LINKED,
+    SCENES, WORDS,
 };
 
 pub fn self_test() -> Result<(), String> {
-    let missed = missed(&WORDS) + missed(&LAYOUTS) + missed(&SCENES);
+    let missed = missed(&WORDS)
+        + missed(&LAYOUTS)
+        + missed(&SCENES)
+        + missed(&FILLINGS)
+        + missed(&GRANTED)
+        + missed(&LINKED);
     if missed > 0 {
         return Err(format!("{missed} faults not caught"));
     }

@@ -53,6 +53,24 @@ enum-known-self-10 c = search needs
 enum-known-self-11 : tie.Need-enum-known-self-11
 enum-known-self-11 c = search needs
 
+enum-known-self-12 : tie.Need-enum-known-self-12
+enum-known-self-12 c = search needs
+
+enum-known-self-13 : tie.Need-enum-known-self-13
+enum-known-self-13 c = search needs
+
+enum-known-self-14 : tie.Need-enum-known-self-14
+enum-known-self-14 c = search needs
+
+enum-known-self-15 : tie.Need-enum-known-self-15
+enum-known-self-15 c = search needs
+
+enum-known-self-16 : tie.Need-enum-known-self-16
+enum-known-self-16 c = search needs
+
+enum-known-self-17 : tie.Need-enum-known-self-17
+enum-known-self-17 c = search needs
+
 returns : tie.Need-returns
 returns c = sym (ap wordsOf (c .enum-told .given .1))
 
@@ -95,6 +113,24 @@ returns-13 c = sym (ap wordsOf (c .before .self10 .given .1))
 returns-14 : tie.Need-returns-14
 returns-14 c = sym (ap wordsOf (c .before .self11 .given .1))
 
+returns-15 : tie.Need-returns-15
+returns-15 c = sym (ap wordsOf (c .before .self12 .given .1))
+
+returns-16 : tie.Need-returns-16
+returns-16 c = sym (ap wordsOf (c .before .self13 .given .1))
+
+returns-17 : tie.Need-returns-17
+returns-17 c = sym (ap wordsOf (c .before .self14 .given .1))
+
+returns-18 : tie.Need-returns-18
+returns-18 c = sym (ap wordsOf (c .before .self15 .given .1))
+
+returns-19 : tie.Need-returns-19
+returns-19 c = sym (ap wordsOf (c .before .self16 .given .1))
+
+returns-20 : tie.Need-returns-20
+returns-20 c = sym (ap wordsOf (c .before .self17 .given .1))
+
 pub words-spec : {M : Type 1} → statement M
 words-spec =
     tie.close
@@ -113,6 +149,12 @@ words-spec =
     enum-told-3
     enum-known-self-10
     enum-known-self-11
+    enum-known-self-12
+    enum-known-self-13
+    enum-known-self-14
+    enum-known-self-15
+    enum-known-self-16
+    enum-known-self-17
     returns
     returns-2
     returns-3
@@ -126,4 +168,10 @@ words-spec =
     returns-11
     returns-12
     returns-13
-    returns-14)
+    returns-14
+    returns-15
+    returns-16
+    returns-17
+    returns-18
+    returns-19
+    returns-20)

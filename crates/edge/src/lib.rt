@@ -1,0 +1,106 @@
+// Page-table edges and grants as records (hv-s2's leafmap.rs, check.rs), and what one of them says.
+use p2m::Owner;
+use perm::Perm;
+ghost use mathlib.Core.Path.{_≡_};
+ghost use Rattle.edge.specs.Edge.{edgeOf, permOf, owns, counts};
+ghost use Rattle.edge.specs.Grant.{grantOf, covers};
+
+// A page-table entry: slot `slot` of table `parent` references `child`.
+pub struct Edge {
+    pub parent: u32,
+    pub slot: u32,
+    pub child: u32,
+    pub writable: bool,
+    pub leaf: bool,
+    pub execute: bool,
+}
+
+// The owner `grantor` lets `grantee` reach `frame`. Both are owner numbers.
+pub struct Grant {
+    pub grantor: u32,
+    pub grantee: u32,
+    pub frame: u32,
+    pub writable: bool,
+}
+
+impl Edge {
+    // From a row of its six fields, of which zero is no and all else yes.
+    pub fn of(row: [u32; 6]) -> Edge
+        ensures { λ r. ⌜ r ≡ edgeOf row ⌝ }
+    {
+        Edge {
+            parent: row[0],
+            slot: row[1],
+            child: row[2],
+            writable: row[3] != 0,
+            leaf: row[4] != 0,
+            execute: row[5] != 0,
+        }
+    }
+
+    // No leaf is writable and executable: writable wins.
+    pub fn perm(self) -> Perm
+        ensures { λ r. ⌜ r ≡ permOf self ⌝ }
+    {
+        if self.writable {
+            return Perm::Rw;
+        }
+        if self.execute {
+            return Perm::Rx;
+        }
+        Perm::Ro
+    }
+
+    // Only leaves map a frame, and only those of tables that the domain owns map it for the domain.
+    pub fn counts(self, frames: &[[u32; 2]], dom: u16) -> bool
+        ensures { λ r. ⌜ r ≡ counts (now (frames .entry)) dom self ⌝ }
+    {
+        if self.leaf {
+            return owns(frames, self.parent, dom);
+        }
+        false
+    }
+}
+
+impl Grant {
+    // From a row of its four fields, of which zero is no and all else yes.
+    pub fn of(row: [u32; 4]) -> Grant
+        ensures { λ r. ⌜ r ≡ grantOf row ⌝ }
+    {
+        Grant {
+            grantor: row[0],
+            grantee: row[1],
+            frame: row[2],
+            writable: row[3] != 0,
+        }
+    }
+
+    // Whether it lets `dom` read frame `mfn` of `owner`, or also write it. A grant for writing covers reading.
+    pub fn covers(self, owner: u16, dom: u16, mfn: u32, writable: bool) -> bool
+        ensures { λ r. ⌜ r ≡ covers owner dom mfn writable self ⌝ }
+    {
+        if self.grantor != owner as u32 {
+            return false;
+        }
+        if self.grantee != dom as u32 {
+            return false;
+        }
+        if self.frame != mfn {
+            return false;
+        }
+        if writable {
+            return self.writable;
+        }
+        true
+    }
+}
+
+// Whether the domain owns the frame.
+pub fn owns(frames: &[[u32; 2]], mfn: u32, dom: u16) -> bool
+    ensures { λ r. ⌜ r ≡ owns (now (frames .entry)) dom mfn ⌝ }
+{
+    match p2m::owner_of(frames, mfn) {
+        Owner::Domain(owner) => owner == dom,
+        Owner::Nobody => false,
+    }
+}

@@ -1,0 +1,108 @@
+-- `place_edge` meets its contract: skipped, refused by 15, or put into the map of its parent's span.
+use mathlib.Core.Path.{_≡_, _∙_, sym, ap}
+use mathlib.Core.Bool.{true}
+use borrow.Author.Tests.{not-true, not-false}
+use denote.Ref.{now}
+use Rattle.edge.specs.Edge.{counts}
+use Rattle.p2m.specs.declared.TableSpan.the-variants.{Leaves}
+use Rattle.leafmap.specs.Filling.{placed}
+use borrow.Author.Needs.{needs}
+use Rattle.leafmap.proofs.place_edge.Statement.{statement}
+use Rattle.leafmap.proofs.place_edge.Tie as tie
+use Rattle.leafmap.proofs.place_edge.Reads as reads
+use Rattle.leafmap.proofs.place_edge.Lts as lts
+use Rattle.edge.proofs.Edge.counts.Reads as counts-reads
+use Rattle.leafmap.proofs.put.Reads as put-reads
+use Rattle.p2m.proofs.span_of_table.Reads as span-of-table-reads
+
+counted :
+    (c : tie.Else1) →
+    let a = c .before .before .before .before .args in
+    counts (now (a .frames)) (a .dom) (a .e) ≡ true
+counted c = let v = c .before .counts in sym (v .ensures) ∙ not-false (v .result) (c .if1 .left)
+
+counts-requires : tie.Need-counts-requires
+counts-requires c κs = search needs
+
+returns : tie.Need-returns
+unfolding placed
+returns c =
+    let v = c .before .counts in
+    rw (sym (v .ensures) ∙ not-true (v .result) (c .if1 .taken))
+
+span-of-table-requires : tie.Need-span-of-table-requires
+span-of-table-requires c κs = search needs
+
+enum-known-span : tie.Need-enum-known-span
+enum-known-span c = search needs
+
+enum-told : tie.Need-enum-told
+enum-told c = search needs
+
+put-requires : tie.Need-put-requires
+put-requires c κs = search needs
+
+enum-told-2 : tie.Need-enum-told-2
+enum-told-2 c = search needs
+
+put-requires-2 : tie.Need-put-requires-2
+put-requires-2 c κs = search needs
+
+enum-told-3 : tie.Need-enum-told-3
+enum-told-3 c = search needs
+
+cast-t16 : tie.Need-cast-t16
+cast-t16 c = search needs
+
+same-length : tie.Need-same-length
+same-length c = search needs
+
+returns-2 : tie.Need-returns-2
+unfolding placed
+returns-2 c =
+    let p = c .before .before in
+    let told = p .before .before in
+    let span = told .before .before .before in
+    let v = span .before .before in
+    let in-base = sym (v .span-of-table .ensures) ∙ span .span .given .1 ∙ ap Leaves (told .enum-told .given .1) in
+    rw (counted (v .before), in-base, ← p .put .ensures)
+
+same-length-2 : tie.Need-same-length-2
+same-length-2 c = search needs
+
+returns-3 : tie.Need-returns-3
+unfolding placed
+returns-3 c =
+    let p = c .before .before in
+    let told = p .before .before in
+    let span = told .before .before .before in
+    let v = span .before .before in
+    let in-sup = sym (v .span-of-table .ensures) ∙ span .span .given .1 ∙ ap Leaves (told .enum-told2 .given .1) in
+    rw (counted (v .before), in-sup, ← p .put2 .ensures)
+
+returns-4 : tie.Need-returns-4
+unfolding placed
+returns-4 c =
+    let told = c .before in
+    let v = told .before .before in
+    rw (counted (v .before), sym (v .span-of-table .ensures) ∙ told .enum-told3 .given .1)
+
+pub place-edge-spec : {M : Type 1} → statement M
+place-edge-spec =
+    tie.close
+    (tie.spec
+    counts-requires
+    returns
+    span-of-table-requires
+    enum-known-span
+    enum-told
+    put-requires
+    enum-told-2
+    put-requires-2
+    enum-told-3
+    cast-t16
+    same-length
+    returns-2
+    same-length-2
+    returns-3
+    returns-4)

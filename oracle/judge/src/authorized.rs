@@ -1,0 +1,121 @@
+//! check.rs: `check_authorized_with`, which checks a map against owners and grants.
+//!
+//! Rows 2 and 3 are not in the Rust: they are computed here from document 01's table.
+
+use std::fmt::{self, Display, Formatter};
+
+use given_core::p2m::DomId;
+use given_s2::check::{check_authorized_with, Violation};
+
+use crate::authorized_faults::FAULTS;
+use crate::authorized_inputs::{granted, small_granted};
+use crate::function::{Answer, Function, Input, Layer};
+use crate::inputs::{words, Words};
+use crate::layout::{row, ACCEPTED, LEAST};
+use crate::maps::{self, too_long};
+use crate::p2m::NOBODY;
+use crate::port_maps;
+use crate::records::{grants, system, Frame, Grant};
+
+/// A map with the frames and grants that it is checked against.
+#[derive(Clone)]
+pub struct Granted {
+    pub dom: DomId,
+    pub map: Vec<u8>,
+    pub frames: Vec<Frame>,
+    pub grants: Vec<Grant>,
+}
+
+pub const LAYER: Layer<Granted> = Layer {
+    functions: &[Function {
+        name: "check_authorized_with",
+        op: (),
+        original: authorized,
+        boundary: || Box::new(small_granted()),
+        sweep: |scale| Box::new(granted(scale)),
+        answers: ANSWERS,
+        recorded: false,
+    }],
+    faults: FAULTS,
+};
+
+const ANSWERS: &[Answer] = &[
+    ("accepted", row::<0>),
+    ("row 2", row::<2>),
+    ("row 3", row::<3>),
+    ("row 23 of nobody's frame", |answer| {
+        answer[0] == 23 && answer[3] == NOBODY
+    }),
+    ("row 23 of a domain's frame", |answer| {
+        answer[0] == 23 && answer[3] < NOBODY
+    }),
+    ("row 24", row::<24>),
+];
+
+impl Input for Granted {
+    type Op = ();
+    type Reply = Words;
+    const LEAST: u64 = LEAST;
+
+    fn port(&self, (): ()) -> Words {
+        port_maps::authorized(self)
+    }
+
+    fn shown(&self) -> String {
+        self.to_string()
+    }
+}
+
+pub fn authorized(x: &Granted) -> Words {
+    if too_long(&x.map) {
+        return words([2]);
+    }
+    maps::row_3(1, &x.map).unwrap_or_else(|| original(x))
+}
+
+fn original(x: &Granted) -> Words {
+    let system = system(&[], &x.frames);
+    let grants = grants(&x.grants);
+    let answer = check_authorized_with(
+        x.dom,
+        &maps::entries(&x.map),
+        |mfn| system.owner_of(mfn),
+        |grantor, grantee, frame, writable| grants.authorizes(grantor, grantee, frame, writable),
+    );
+    answer.map_or_else(refusal, |()| ACCEPTED)
+}
+
+fn refusal(violation: Violation) -> Words {
+    match violation {
+        Violation::UnauthorizedMapping {
+            dom,
+            mfn,
+            owner,
+            perm,
+        } => {
+            let owner = owner.map_or(NOBODY, u64::from);
+            let perm = maps::code(Some(perm));
+            words([23, dom.into(), mfn.into(), owner, perm.into()])
+        }
+        Violation::WriteEscalation { dom, mfn, owner } => {
+            words([24, dom.into(), mfn.into(), owner.into()])
+        }
+        other => panic!("check_authorized_with cannot answer {other:?}"),
+    }
+}
+
+impl Display for Granted {
+    fn fmt(&self, f: &mut Formatter) -> fmt::Result {
+        let Granted {
+            dom,
+            frames,
+            grants,
+            ..
+        } = self;
+        let map = maps::shown(&self.map);
+        write!(
+            f,
+            "domain {dom}, map {map}, frames {frames:?}, grants {grants:?}"
+        )
+    }
+}

@@ -1,0 +1,152 @@
+//! check.rs: `check_exact`, which checks a map against the edges of one span.
+//!
+//! Rows 2 and 3 are not in the Rust: they are computed here from document 01's table.
+
+use std::fmt::{self, Display, Formatter};
+
+use given_core::grant;
+use given_core::p2m::DomId;
+use given_core::Hypervisor;
+use given_s2::check::{check_exact, Violation};
+use given_s2::leafmap::Span;
+
+use crate::exact_faults::FAULTS;
+use crate::exact_inputs::{linked, small_linked};
+use crate::function::{Answer, Function, Input, Layer};
+use crate::inputs::{words, Words};
+use crate::layout::{row, ACCEPTED, LEAST};
+use crate::maps::{self, too_long};
+use crate::port_maps;
+use crate::records::{system, Edge, Frame};
+
+/// A map with the edges that it is checked against.
+#[derive(Clone)]
+pub struct Linked {
+    pub dom: DomId,
+    pub map: Vec<u8>,
+    /// Zero is base, all else super.
+    pub is_super: u32,
+    pub edges: Vec<Edge>,
+    pub frames: Vec<Frame>,
+}
+
+/// The answers do not tell the span, so each has a function of its own to be counted by.
+pub const LAYER: Layer<Linked> = Layer {
+    functions: &[
+        Function {
+            name: "check_exact, base",
+            op: (),
+            original: exact,
+            boundary: || Box::new(small_linked(Span::Base)),
+            sweep: |scale| Box::new(linked(Span::Base, scale)),
+            answers: ANSWERS,
+            recorded: false,
+        },
+        Function {
+            name: "check_exact, super",
+            op: (),
+            original: exact,
+            boundary: || Box::new(small_linked(Span::Super)),
+            sweep: |scale| Box::new(linked(Span::Super, scale)),
+            answers: ANSWERS,
+            recorded: false,
+        },
+    ],
+    faults: FAULTS,
+};
+
+const ANSWERS: &[Answer] = &[
+    ("accepted", row::<0>),
+    ("row 2", row::<2>),
+    ("row 3", row::<3>),
+    ("row 25", row::<25>),
+];
+
+impl Input for Linked {
+    type Op = ();
+    type Reply = Words;
+    const LEAST: u64 = LEAST;
+
+    fn port(&self, (): ()) -> Words {
+        port_maps::exact(self)
+    }
+
+    fn shown(&self) -> String {
+        self.to_string()
+    }
+}
+
+impl Linked {
+    pub fn span(&self) -> Span {
+        match self.is_super {
+            0 => Span::Base,
+            _ => Span::Super,
+        }
+    }
+
+    /// The kind of the tables whose edges count.
+    pub fn kind(&self) -> u32 {
+        match self.span() {
+            Span::Base => 2,
+            Span::Super => 3,
+        }
+    }
+}
+
+pub fn exact(x: &Linked) -> Words {
+    if too_long(&x.map) {
+        return words([2]);
+    }
+    let code = match x.span() {
+        Span::Base => 1,
+        Span::Super => 2,
+    };
+    maps::row_3(code, &x.map).unwrap_or_else(|| original(x))
+}
+
+fn original(x: &Linked) -> Words {
+    let hypervisor = Hypervisor {
+        p2m: system(&x.edges, &x.frames),
+        grant: grant::System(Vec::new()),
+    };
+    let answer = check_exact(&hypervisor, x.dom, &maps::entries(&x.map), x.span());
+    answer.map_or_else(refusal, |()| ACCEPTED)
+}
+
+fn refusal(violation: Violation) -> Words {
+    match violation {
+        Violation::Inexact {
+            dom,
+            mfn,
+            mapped,
+            expected,
+        } => {
+            let [mapped, expected] = [mapped, expected].map(maps::code);
+            words([
+                25,
+                dom.into(),
+                mfn.into(),
+                mapped.into(),
+                expected.into(),
+            ])
+        }
+        other => panic!("check_exact cannot answer {other:?}"),
+    }
+}
+
+impl Display for Linked {
+    fn fmt(&self, f: &mut Formatter) -> fmt::Result {
+        let Linked {
+            dom,
+            is_super,
+            edges,
+            frames,
+            ..
+        } = self;
+        let map = maps::shown(&self.map);
+        write!(
+            f,
+            "domain {dom}, map {map}, span {is_super}, frames {frames:?}, edges {edges:?}"
+        )
+    }
+}
