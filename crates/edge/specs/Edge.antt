@@ -6,10 +6,9 @@ use lib.Dec.{eqb}
 use lib.ListN.{getD}
 use Rattle.fields.specs.Named.{pick}
 use Rattle.fields.specs.Numbers.{nonzero}
-use Rattle.p2m.specs.Frame.{ownerOf, kindAt, spanKind}
+use Rattle.p2m.specs.Frame.{ownerOf}
 use Rattle.p2m.specs.declared.Owner.the-variants.{Domain, Nobody}
 use Rattle.p2m.specs.declared.Owner.{Owner}
-use Rattle.p2m.specs.declared.Span.{Span}
 use Rattle.perm.specs.Perm.{permCode}
 use Rattle.perm.specs.declared.Perm.the-variants.{Ro, Rw, Rx}
 use Rattle.perm.specs.declared.Perm.{Perm}
@@ -46,7 +45,3 @@ owns frames dom m = ownedBy dom (ownerOf frames m)
 -- all others, non-leaf edges and edges whose parent the domain doesn't own, are skipped
 unfoldable pub counts : List (List ℕ) → ℕ → Edge → Bool
 counts frames dom e = e .leaf && owns frames dom (e .parent)
-
--- the edge's leaves are of this span
-unfoldable pub spans : List (List ℕ) → Span → Edge → Bool
-spans frames s e = eqb (kindAt frames (e .parent)) (spanKind s)

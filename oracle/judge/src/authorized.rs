@@ -7,8 +7,9 @@ use std::fmt::{self, Display, Formatter};
 use given_core::p2m::DomId;
 use given_s2::check::{check_authorized_with, Violation};
 
+use crate::authorized_examples::small_granted;
 use crate::authorized_faults::FAULTS;
-use crate::authorized_inputs::{granted, small_granted};
+use crate::authorized_inputs::granted;
 use crate::function::{Answer, Function, Input, Layer};
 use crate::inputs::{words, Words};
 use crate::layout::{row, ACCEPTED, LEAST};

@@ -122,13 +122,7 @@ fn refusal(violation: Violation) -> Words {
             expected,
         } => {
             let [mapped, expected] = [mapped, expected].map(maps::code);
-            words([
-                25,
-                dom.into(),
-                mfn.into(),
-                mapped.into(),
-                expected.into(),
-            ])
+            words([25, dom.into(), mfn.into(), mapped.into(), expected.into()])
         }
         other => panic!("check_exact cannot answer {other:?}"),
     }

@@ -8,8 +8,9 @@ use std::fmt::{self, Display, Formatter};
 use given_core::p2m::DomId;
 use given_s2::leafmap::{leaf_map_from_edges, span_of_table, MapError, Maps, Perm};
 
+use crate::fill_examples::small_fillings;
 use crate::fill_faults::FAULTS;
-use crate::fill_inputs::{fillings, small_fillings};
+use crate::fill_inputs::fillings;
 use crate::function::{Answer, Function, Input, Layer, Reply};
 use crate::inputs::{hex, words, Words};
 use crate::layout::{row, ACCEPTED, LEAST};

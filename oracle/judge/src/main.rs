@@ -2,6 +2,7 @@
 
 mod absent;
 mod authorized;
+mod authorized_examples;
 mod authorized_faults;
 mod authorized_inputs;
 mod compare;
@@ -11,6 +12,7 @@ mod exact_faults;
 mod exact_inputs;
 mod fenced;
 mod fill;
+mod fill_examples;
 mod fill_faults;
 mod fill_inputs;
 mod function;

@@ -72,7 +72,7 @@ pub fn fill(x: &Filling) -> Filled {
             out.as_mut_ptr(),
         );
     }
-    let unchanged = edges.lent() == Some(&x.edges) && frames.lent() == Some(&x.frames);
+    let unchanged = edges.lent() == Some(&x.edges[..]) && frames.lent() == Some(&x.frames[..]);
     assert!(unchanged, "probe_fill stores into the lists of {x}");
     let filled = |map: Fenced<u8>| match map.lent() {
         Some(map) => map.to_vec(),
@@ -103,9 +103,9 @@ pub fn authorized(x: &Granted) -> Words {
             out.as_mut_ptr(),
         );
     }
-    let unchanged = map.lent() == Some(&x.map)
-        && frames.lent() == Some(&x.frames)
-        && grants.lent() == Some(&x.grants);
+    let unchanged = map.lent() == Some(&x.map[..])
+        && frames.lent() == Some(&x.frames[..])
+        && grants.lent() == Some(&x.grants[..]);
     assert!(unchanged, "probe_authorized stores into {x}");
     out
 }
@@ -129,9 +129,9 @@ pub fn exact(x: &Linked) -> Words {
             out.as_mut_ptr(),
         );
     }
-    let unchanged = map.lent() == Some(&x.map)
-        && edges.lent() == Some(&x.edges)
-        && frames.lent() == Some(&x.frames);
+    let unchanged = map.lent() == Some(&x.map[..])
+        && edges.lent() == Some(&x.edges[..])
+        && frames.lent() == Some(&x.frames[..]);
     assert!(unchanged, "probe_exact stores into {x}");
     out
 }

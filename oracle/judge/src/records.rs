@@ -57,14 +57,7 @@ pub fn system(edges: &[Edge], frames: &[Frame]) -> System {
 fn link_edge(edge: Edge) -> p2m::Edge {
     let [writable, leaf, execute] =
         [edge.writable, edge.leaf, edge.execute].map(|number| number != 0);
-    (
-        edge.parent,
-        edge.slot,
-        edge.child,
-        writable,
-        leaf,
-        execute,
-    )
+    (edge.parent, edge.slot, edge.child, writable, leaf, execute)
 }
 
 fn given_frame(frame: Frame) -> p2m::Frame {

@@ -1,0 +1,103 @@
+-- `all_reached` meets its contract: the first row is that of the entries from m on.
+use Prim.Native.Nat.{_+_, _-_}
+use mathlib.Core.List.{_++_, map}
+use mathlib.Core.Path.{_≡_, refl, sym, _∙_}
+use lib.ListN.{getD, drop}
+use borrow.Author.Needs.{needs}
+use denote.Ref.{now}
+use Rattle.edge.specs.Grant.{grantOf}
+use Rattle.refusal.proofs.First.{next, stop}
+use Rattle.refusal.proofs.Parts.{from-at, from-end}
+use Rattle.refusal.specs.Table.{first, eachFrom}
+use Rattle.authority.specs.Authority.{reachRows}
+use Rattle.authority.proofs.all_reached.Statement.{statement}
+use Rattle.authority.proofs.all_reached.Tie as tie
+use Rattle.authority.proofs.all_reached.Reads as reads
+use Rattle.authority.proofs.all_reached.Lts as lts
+use Rattle.authority.proofs.reached.Reads as reached-reads
+
+abbrev Inv-loop : tie.InvT-loop
+Inv-loop dom leaves frames grants m₀ m-end m =
+    first (eachFrom (reachRows frames (map grantOf grants) dom) 0 leaves)
+    ≡ first (eachFrom (reachRows frames (map grantOf grants) dom) m (drop m leaves))
+
+abbrev μ-loop : tie.MeasureT-loop
+μ-loop dom leaves frames grants m₀ m-end m = m-end - m
+
+-- the rows from m on: those of its entry, and those after it
+here :
+    (v : tie.After-reached Inv-loop μ-loop) →
+    let h = v .before .before .before in
+    let a = h .before .before .args in
+    let rows = reachRows (now (a .frames)) (map grantOf (now (a .grants))) (a .dom) in
+    let m = h .loop .m in
+    eachFrom rows m (drop m (now (a .leaves)))
+    ≡ rows m (getD (now (a .leaves)) m 0) ++ eachFrom rows (m + 1) (drop (m + 1) (now (a .leaves)))
+here v =
+    let turn = v .before .before in
+    let h = turn .before in
+    let a = h .before .before .args in
+    from-at (now (a .leaves)) (h .loop .m) 0 (turn .loop-test .taken)
+    (reachRows (now (a .frames)) (map grantOf (now (a .grants))) (a .dom))
+
+loop-holds : tie.Need-loop-holds Inv-loop μ-loop
+loop-holds c = refl
+
+cast-reached : tie.Need-cast-reached Inv-loop μ-loop
+cast-reached c = search needs
+
+shared-slice-read-reached : tie.Need-shared-slice-read-reached Inv-loop μ-loop
+shared-slice-read-reached c = search needs
+
+reached-requires : tie.Need-reached-requires Inv-loop μ-loop
+reached-requires c κs = search needs
+
+enum-told : tie.Need-enum-told Inv-loop μ-loop
+enum-told c = search needs
+
+enum-told-2 : tie.Need-enum-told-2 Inv-loop μ-loop
+enum-told-2 c = search needs
+
+returns : tie.Need-returns Inv-loop μ-loop
+returns c =
+    let v = c .before .before in
+    let refused = c .enum-told2 .given in
+    stop _ _ (v .reached .result) (refused .0 .0) (here v) (refused .1) (v .reached .ensures)
+    ∙ sym (v .before .before .before .loop .inv)
+
+add-m : tie.Need-add-m Inv-loop μ-loop
+add-m c = search needs
+
+loop-less : tie.Need-loop-less Inv-loop μ-loop
+loop-less c = search needs
+
+loop-again : tie.Need-loop-again Inv-loop μ-loop
+loop-again c =
+    let v = c .before .before in
+    v .before .before .before .loop .inv
+    ∙ next _ _ (v .reached .result) (here v) (c .enum-told .given .1) (v .reached .ensures)
+
+returns-2 : tie.Need-returns-2 Inv-loop μ-loop
+returns-2 c =
+    let h = c .before in
+    let a = h .before .before .args in
+    from-end (now (a .leaves)) (h .loop .m) (c .loop-test .left) (reachRows (now (a .frames)) (map grantOf (now (a .grants))) (a .dom))
+    ∙ sym (h .loop .inv)
+
+pub all-reached-spec : {M : Type 1} → statement M
+all-reached-spec =
+    tie.close
+    (tie.spec
+    Inv-loop
+    μ-loop
+    loop-holds
+    cast-reached
+    shared-slice-read-reached
+    reached-requires
+    enum-told
+    enum-told-2
+    returns
+    add-m
+    loop-less
+    loop-again
+    returns-2)

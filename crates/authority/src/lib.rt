@@ -1,0 +1,94 @@
+// Whether a domain may reach every frame that a map maps (hv-s2's check.rs).
+use edge::Grant;
+use p2m::Owner;
+use perm::Perm;
+use refusal::Refusal;
+use refusal::Verdict;
+ghost use Prim.Native.Nat.{_≤_};
+ghost use mathlib.Core.List.{[], _∷_, map};
+ghost use mathlib.Core.Path.{_≡_};
+ghost use lib.ListN.{length};
+ghost use Rattle.authority.specs.Authority.{granted, reachRows, authorityRows};
+ghost use Rattle.edge.specs.Grant.{grantOf};
+ghost use Rattle.layout.specs.Size.{entries};
+ghost use Rattle.refusal.specs.Outcome.{outcomeOf};
+ghost use Rattle.refusal.specs.Table.{row, refused, first, eachFrom};
+
+// Each mapped frame is the domain's own, or granted by its owner for the mapped access. Grants are rows of their four fields.
+pub fn check_authorized_with(
+    dom: u16,
+    leaves: &[u8],
+    frames: &[[u32; 2]],
+    grants: &[[u32; 4]],
+) -> Verdict
+    ensures { λ r. ⌜ outcomeOf r ≡ first (authorityRows (now (frames .entry)) (map grantOf (now (grants .entry))) dom (now (leaves .entry))) ⌝ }
+{
+    let readable = lent::read_map(1, leaves);
+    let Verdict::Accepted = readable else {
+        return readable;
+    };
+    all_reached(dom, leaves, frames, grants)
+}
+
+// Rows 23 and 24, of every entry.
+fn all_reached(dom: u16, leaves: &[u8], frames: &[[u32; 2]], grants: &[[u32; 4]]) -> Verdict
+    requires { ⌜ length (now leaves) ≤ entries ⌝ }
+    ensures { λ r. ⌜ outcomeOf r ≡ first (eachFrom (reachRows (now (frames .entry)) (map grantOf (now (grants .entry))) dom) 0 (now (leaves .entry))) ⌝ }
+{
+    for m in 0..leaves.len() {
+        let verdict = reached(dom, m as u32, leaves[m], frames, grants);
+        let Verdict::Accepted = verdict else {
+            return verdict;
+        };
+    }
+    Verdict::Accepted
+}
+
+// Rows 23 and 24, of one entry. What nobody owns nobody can grant.
+fn reached(dom: u16, mfn: u32, entry: u8, frames: &[[u32; 2]], grants: &[[u32; 4]]) -> Verdict
+    ensures { λ r. ⌜ outcomeOf r ≡ first (reachRows (now (frames .entry)) (map grantOf (now (grants .entry))) dom mfn entry) ⌝ }
+{
+    if entry == 0 {
+        return Verdict::Accepted;
+    }
+    let Owner::Domain(owner) = p2m::owner_of(frames, mfn) else {
+        return unauthorized(dom, mfn, 65536, entry);
+    };
+    if owner == dom {
+        return Verdict::Accepted;
+    }
+    if granted(grants, owner, dom, mfn, entry == Perm::Rw.code()) {
+        return Verdict::Accepted;
+    }
+    if granted(grants, owner, dom, mfn, false) {
+        return Verdict::Refused(Refusal::WriteEscalation {
+            dom: dom as u64,
+            mfn: mfn as u64,
+            owner: owner as u64,
+        });
+    }
+    unauthorized(dom, mfn, owner as u32, entry)
+}
+
+fn unauthorized(dom: u16, mfn: u32, owner: u32, entry: u8) -> Verdict
+    ensures { λ r. ⌜ outcomeOf r ≡ refused (row 23 (dom ∷ mfn ∷ owner ∷ entry ∷ [])) ⌝ }
+{
+    Verdict::Refused(Refusal::UnauthorizedMapping {
+        dom: dom as u64,
+        mfn: mfn as u64,
+        owner: owner as u64,
+        perm: entry as u64,
+    })
+}
+
+// Whether the owner grants the domain to read its frame, or also to write it.
+fn granted(grants: &[[u32; 4]], owner: u16, dom: u16, mfn: u32, writable: bool) -> bool
+    ensures { λ r. ⌜ r ≡ granted (map grantOf (now (grants .entry))) owner dom mfn writable ⌝ }
+{
+    for i in 0..grants.len() {
+        if Grant::of(grants[i]).covers(owner, dom, mfn, writable) {
+            return true;
+        }
+    }
+    false
+}

@@ -1,0 +1,92 @@
+// Whether a map is what the edges of its span give (hv-s2's check.rs).
+use edge::Edge;
+use layout::Layout;
+use p2m::Span;
+use p2m::TableSpan;
+use refusal::Refusal;
+use refusal::Verdict;
+ghost use Prim.Native.Nat.{ℕ, _≤_, _<_};
+ghost use mathlib.Core.List.{map};
+ghost use mathlib.Core.Path.{_≡_};
+ghost use lib.ListN.{length, getD};
+ghost use Rattle.edge.specs.Edge.{edgeOf};
+ghost use Rattle.exact.specs.Exact.{lands, afterEdge, expected, row25, exactRows};
+ghost use Rattle.layout.specs.Size.{entries};
+ghost use Rattle.refusal.specs.Outcome.{outcomeOf};
+ghost use Rattle.refusal.specs.Table.{first, eachFrom};
+
+// Each entry is that of the last edge into its frame. Edges are rows of their six fields.
+pub fn check_exact(
+    dom: u16,
+    leaves: &[u8],
+    span: Span,
+    edges: &[[u32; 6]],
+    frames: &[[u32; 2]],
+) -> Verdict
+    ensures { λ r. ⌜ outcomeOf r ≡ first (exactRows (now (frames .entry)) dom span (map edgeOf (now (edges .entry))) (now (leaves .entry))) ⌝ }
+{
+    let readable = lent::read_map(span.code() as u64, leaves);
+    let Verdict::Accepted = readable else {
+        return readable;
+    };
+    let wanted = expected_entries(dom, span, edges, frames);
+    same_entries(dom, leaves, &wanted)
+}
+
+// Row 25. The lowest entry that differs.
+fn same_entries(dom: u16, leaves: &[u8], wanted: &[u8; Layout::ENTRIES]) -> Verdict
+    requires { ⌜ length (now leaves) ≤ entries ⌝ }
+    ensures { λ r. ⌜ outcomeOf r ≡ first (eachFrom (row25 dom (λ m. getD (now (wanted .entry)) m 0)) 0 (now (leaves .entry))) ⌝ }
+{
+    for m in 0..leaves.len() {
+        if leaves[m] != wanted[m] {
+            return Verdict::Refused(Refusal::Inexact {
+                dom: dom as u64,
+                mfn: m as u64,
+                mapped: leaves[m] as u64,
+                expected: wanted[m] as u64,
+            });
+        }
+    }
+    Verdict::Accepted
+}
+
+// All entries in one pass over the edges, where the Rust goes through the edges once for each frame.
+fn expected_entries(
+    dom: u16,
+    span: Span,
+    edges: &[[u32; 6]],
+    frames: &[[u32; 2]],
+) -> [u8; Layout::ENTRIES]
+    ensures { λ r. ⌜ ((m : ℕ) → m < entries → getD r m 0 ≡ expected (now (frames .entry)) dom span (map edgeOf (now (edges .entry))) m) ⌝ }
+{
+    let mut wanted = [0u8; Layout::ENTRIES];
+    for i in 0..edges.len() {
+        note(&mut wanted, Edge::of(edges[i]), dom, span, frames);
+    }
+    wanted
+}
+
+// The entries after one edge.
+fn note(wanted: &mut [u8; Layout::ENTRIES], e: Edge, dom: u16, span: Span, frames: &[[u32; 2]])
+    ensures { λ _. ⌜ ((m : ℕ) → m < entries → getD (now (wanted .exit)) m 0 ≡ afterEdge (now (frames .entry)) dom span m (getD (now (wanted .entry)) m 0) e) ⌝ }
+{
+    let child = e.child as usize;
+    if child < Layout::ENTRIES {
+        if lands(e, dom, span, frames) {
+            wanted[child] = e.perm().code();
+        }
+    }
+}
+
+fn lands(e: Edge, dom: u16, span: Span, frames: &[[u32; 2]]) -> bool
+    ensures { λ r. ⌜ r ≡ lands (now (frames .entry)) dom span e ⌝ }
+{
+    if !e.counts(frames, dom) {
+        return false;
+    }
+    match p2m::span_of_table(frames, e.parent) {
+        TableSpan::Leaves(found) => found.code() == span.code(),
+        TableSpan::Unsupported => false,
+    }
+}

@@ -1,0 +1,3 @@
+use crate::authorized::Granted;
+use crate::function::Fault;
+pub const FAULTS: &[Fault<Granted>] = &[];

@@ -1,0 +1,3 @@
+use crate::exact::Linked;
+use crate::function::Fault;
+pub const FAULTS: &[Fault<Linked>] = &[];
