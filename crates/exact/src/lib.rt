@@ -34,17 +34,19 @@ pub fn check_exact(
 }
 
 // Row 25. The lowest entry that differs.
-fn same_entries(dom: u16, leaves: &[u8], wanted: &[u8; Layout::ENTRIES]) -> Verdict
-    requires { ⌜ length (now leaves) ≤ entries ⌝ }
+fn same_entries(dom: u16, leaves: &[u8], wanted: &[u8]) -> Verdict
+    requires { ⌜ length (now leaves) ≤ length (now wanted) ⌝ }
     ensures { λ r. ⌜ outcomeOf r ≡ first (eachFrom (row25 dom (λ m. getD (now (wanted .entry)) m 0)) 0 (now (leaves .entry))) ⌝ }
 {
     for m in 0..leaves.len() {
-        if leaves[m] != wanted[m] {
+        let mapped = leaves[m];
+        let expected = wanted[m];
+        if mapped != expected {
             return Verdict::Refused(Refusal::Inexact {
                 dom: dom as u64,
                 mfn: m as u64,
-                mapped: leaves[m] as u64,
-                expected: wanted[m] as u64,
+                mapped: mapped as u64,
+                expected: expected as u64,
             });
         }
     }
@@ -68,11 +70,11 @@ fn expected_entries(
 }
 
 // The entries after one edge.
-fn note(wanted: &mut [u8; Layout::ENTRIES], e: Edge, dom: u16, span: Span, frames: &[[u32; 2]])
-    ensures { λ _. ⌜ ((m : ℕ) → m < entries → getD (now (wanted .exit)) m 0 ≡ afterEdge (now (frames .entry)) dom span m (getD (now (wanted .entry)) m 0) e) ⌝ }
+fn note(wanted: &mut [u8], e: Edge, dom: u16, span: Span, frames: &[[u32; 2]])
+    ensures { λ _. ⌜ ((m : ℕ) → m < length (now (wanted .entry)) → getD (now (wanted .exit)) m 0 ≡ afterEdge (now (frames .entry)) dom span m (getD (now (wanted .entry)) m 0) e) ⌝ }
 {
     let child = e.child as usize;
-    if child < Layout::ENTRIES {
+    if child < wanted.len() {
         if lands(e, dom, span, frames) {
             wanted[child] = e.perm().code();
         }

@@ -11,12 +11,12 @@ pub const LAYER: Layer = Layer {
         absent("op 263", WRAPPED),
         absent("op 4294967295", u32::MAX),
     ],
-    faults: &[Fault {
+    faults: &[&[Fault {
         name: "op-cut-to-a-byte",
         slip: "the number of the function is taken modulo 256",
         op: WRAPPED,
         alter: |x, answer| *answer = port::answer(WRAPPED % 256, x),
-    }],
+    }]],
 };
 
 /// Its low byte is the number of `decode_page`.

@@ -8,7 +8,6 @@ use given_core::p2m::DomId;
 use given_s2::check::{check_authorized_with, Violation};
 
 use crate::authorized_examples::small_granted;
-use crate::authorized_faults::FAULTS;
 use crate::authorized_inputs::granted;
 use crate::function::{Answer, Function, Input, Layer};
 use crate::inputs::{words, Words};
@@ -17,6 +16,7 @@ use crate::maps::{self, too_long};
 use crate::p2m::NOBODY;
 use crate::port_maps;
 use crate::records::{grants, system, Frame, Grant};
+use crate::{authorized_faults, grant_faults};
 
 /// A map with the frames and grants that it is checked against.
 #[derive(Clone)]
@@ -37,7 +37,7 @@ pub const LAYER: Layer<Granted> = Layer {
         answers: ANSWERS,
         recorded: false,
     }],
-    faults: FAULTS,
+    faults: &[authorized_faults::FAULTS, grant_faults::FAULTS],
 };
 
 const ANSWERS: &[Answer] = &[

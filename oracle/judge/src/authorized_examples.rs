@@ -21,8 +21,8 @@ const fn grant(grantee: u32, frame: u32, writable: u32) -> Grant {
 const EXAMPLES: &[(&[u64], fn(&mut Granted))] = &[
     (&[0], |_| ()),
     (&[0], |x| x.map.clear()),
-    (&[2], |x| x.map.resize(MAP_LEN + 1, 0)),
-    (&[2], |x| x.map.resize(65_536 + 512, 4)),
+    (&[2], |x| x.map.resize(MAP_LEN + 1, 4)),
+    (&[2], |x| x.map.resize(65_536 + 512, 0)),
     (&[3, 1, 511], |x| x.map[511] = 4),
     // Every byte is looked at before any owner.
     (&[3, 1, 5], |x| (x.map[4], x.map[5], x.map[6]) = (1, 4, 255)),

@@ -24,7 +24,7 @@ const DECODE_DEVICE_BLOCK: u32 = 10;
 
 pub const LAYER: Layer = Layer {
     functions: FUNCTIONS,
-    faults: FAULTS,
+    faults: &[FAULTS],
 };
 
 const FUNCTIONS: &[Function] = &[

@@ -10,7 +10,6 @@ use given_core::Hypervisor;
 use given_s2::check::{check_exact, Violation};
 use given_s2::leafmap::Span;
 
-use crate::exact_faults::FAULTS;
 use crate::exact_inputs::{linked, small_linked};
 use crate::function::{Answer, Function, Input, Layer};
 use crate::inputs::{words, Words};
@@ -18,6 +17,7 @@ use crate::layout::{row, ACCEPTED, LEAST};
 use crate::maps::{self, too_long};
 use crate::port_maps;
 use crate::records::{system, Edge, Frame};
+use crate::{exact_faults, misread};
 
 /// A map with the edges that it is checked against.
 #[derive(Clone)]
@@ -52,7 +52,7 @@ pub const LAYER: Layer<Linked> = Layer {
             recorded: false,
         },
     ],
-    faults: FAULTS,
+    faults: &[misread::EXACT, exact_faults::FAULTS],
 };
 
 const ANSWERS: &[Answer] = &[
@@ -84,6 +84,14 @@ impl Linked {
         }
     }
 
+    /// The code of the map.
+    pub fn code(&self) -> u64 {
+        match self.span() {
+            Span::Base => 1,
+            Span::Super => 2,
+        }
+    }
+
     /// The kind of the tables whose edges count.
     pub fn kind(&self) -> u32 {
         match self.span() {
@@ -97,11 +105,7 @@ pub fn exact(x: &Linked) -> Words {
     if too_long(&x.map) {
         return words([2]);
     }
-    let code = match x.span() {
-        Span::Base => 1,
-        Span::Super => 2,
-    };
-    maps::row_3(code, &x.map).unwrap_or_else(|| original(x))
+    maps::row_3(x.code(), &x.map).unwrap_or_else(|| original(x))
 }
 
 fn original(x: &Linked) -> Words {

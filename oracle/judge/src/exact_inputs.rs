@@ -16,8 +16,8 @@ use crate::record_inputs::{edge_pairs, frame, kinds, leaf, place, tables, writab
 const EXAMPLES: &[(&[u64], fn(&mut Linked))] = &[
     (&[0], |_| ()),
     (&[0], |x| x.map.clear()),
-    (&[2], |x| x.map.resize(MAP_LEN + 1, 0)),
-    (&[2], |x| x.map.resize(65_536 + 512, 4)),
+    (&[2], |x| x.map.resize(MAP_LEN + 1, 4)),
+    (&[2], |x| x.map.resize(65_536 + 512, 0)),
     (&[3], |x| x.map[511] = 4),
     (&[3], |x| (x.map[0], x.map[5], x.map[6]) = (1, 4, 255)),
     (&[25, 3, 1, 0, 2], |x| x.edges = vec![writable_leaf(0, 1)]),

@@ -9,7 +9,6 @@ use given_core::p2m::DomId;
 use given_s2::leafmap::{leaf_map_from_edges, span_of_table, MapError, Maps, Perm};
 
 use crate::fill_examples::small_fillings;
-use crate::fill_faults::FAULTS;
 use crate::fill_inputs::fillings;
 use crate::function::{Answer, Function, Input, Layer, Reply};
 use crate::inputs::{hex, words, Words};
@@ -17,6 +16,7 @@ use crate::layout::{row, ACCEPTED, LEAST};
 use crate::maps::{self, too_long};
 use crate::port_maps;
 use crate::records::{system, Edge, Frame};
+use crate::{conflict_faults, fill_faults, misread};
 
 #[derive(Clone)]
 pub struct Filling {
@@ -46,7 +46,7 @@ pub const LAYER: Layer<Filling> = Layer {
         answers: ANSWERS,
         recorded: false,
     }],
-    faults: FAULTS,
+    faults: &[misread::FILL, fill_faults::FAULTS, conflict_faults::FAULTS],
 };
 
 const ANSWERS: &[Answer] = &[

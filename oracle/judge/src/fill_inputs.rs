@@ -3,6 +3,7 @@
 use crate::fill::Filling;
 use crate::inputs::{random, Random};
 use crate::map_inputs::dirty;
+use crate::p2m::NOBODY;
 use crate::record_inputs::{
     any, domain, flag, frame, frames, kind, leaf, owner, place, spanless, yes, L1, L2,
 };
@@ -119,6 +120,8 @@ fn add_conflict(random: &mut Random, x: &mut Filling) {
 
 /// Puts a leaf of a new table of the domain somewhere among the edges.
 fn add(random: &mut Random, x: &mut Filling, kind: u32, child: u32) {
+    // There are edges of the frame just past the list. It stays nobody's.
+    x.frames.push(frame(NOBODY as u32, kind));
     let edge = Edge {
         slot: any(random),
         writable: flag(random),
@@ -126,6 +129,7 @@ fn add(random: &mut Random, x: &mut Filling, kind: u32, child: u32) {
         execute: flag(random),
         ..leaf(x.frames.len() as u32, child)
     };
+    x.frames.push(frame(x.dom.into(), kind));
     let count = x.edges.len();
     let place = match random.below(4) {
         0 => 0,
@@ -133,7 +137,6 @@ fn add(random: &mut Random, x: &mut Filling, kind: u32, child: u32) {
         _ => random.below(count as u64 + 1) as usize,
     };
     x.edges.insert(place, edge);
-    x.frames.push(frame(x.dom.into(), kind));
 }
 
 fn change_edge(random: &mut Random, x: &mut Filling) {
@@ -172,9 +175,10 @@ pub fn crowded(random: &mut Random) -> Filling {
         (edge.writable, edge.execute) = (flag(random), flag(random));
         edge.leaf = [yes(random), flag(random)][random.below(2) as usize];
     }
+    let tables = [frame(dom.into(), L1), frame(dom.into(), L2)];
     Filling {
         edges,
-        frames: frames(random, dom, 4),
+        frames: [&tables[..], &frames(random, dom, 2)].concat(),
         dom,
         base: vec![random.word() as u8; base],
         sup: vec![random.word() as u8; sup],

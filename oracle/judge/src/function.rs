@@ -90,7 +90,7 @@ pub struct Fault<I: Input = Words> {
 
 pub struct Layer<I: Input = Words> {
     pub functions: &'static [Function<I>],
-    pub faults: &'static [Fault<I>],
+    pub faults: &'static [&'static [Fault<I>]],
 }
 
 /// The functions of eight words.
@@ -118,7 +118,9 @@ pub fn functions<I: Input>(
 }
 
 pub fn faults<I: Input>(layers: &'static [Layer<I>]) -> impl Iterator<Item = &'static Fault<I>> {
-    layers.iter().flat_map(|layer| layer.faults)
+    layers
+        .iter()
+        .flat_map(|layer| layer.faults.iter().copied().flatten())
 }
 
 /// The names of all faults, in the order of the self-test.

@@ -37,7 +37,7 @@ pub const LAYER: Layer<Scene> = Layer {
         answers: ANSWERS,
         recorded: false,
     }],
-    faults: FAULTS,
+    faults: &[FAULTS],
 };
 
 const ANSWERS: &[Answer] = &[

@@ -1,5 +1,6 @@
 //! Slips of a port's guard, at least one for each of rows 1, 2, 3, 13 and 14.
 
+use crate::faults::{fault, with};
 use crate::function::Fault;
 use crate::guard::{row_13, row_14, row_2, Scene, ARENA_LEN};
 use crate::inputs::{altered, words, Words};
@@ -162,21 +163,3 @@ pub const FAULTS: &[Fault<Scene>] = &[
         },
     ),
 ];
-
-const fn fault(
-    name: &'static str,
-    slip: &'static str,
-    alter: fn(&Scene, &mut Words),
-) -> Fault<Scene> {
-    Fault {
-        name,
-        slip,
-        op: (),
-        alter,
-    }
-}
-
-/// The port's answer to the scene after a change.
-fn with(scene: &Scene, change: impl FnOnce(&mut Scene)) -> Words {
-    port::guard(&altered(scene.clone(), change))
-}

@@ -57,7 +57,7 @@ pub const LAYER: Layer<Fields> = Layer {
         answers: ANSWERS,
         recorded: true,
     }],
-    faults: FAULTS,
+    faults: &[FAULTS],
 };
 
 const ANSWERS: &[Answer] = &[

@@ -19,7 +19,7 @@ pub const NOBODY: u64 = 1 << 16;
 
 pub const LAYER: Layer = Layer {
     functions: FUNCTIONS,
-    faults: FAULTS,
+    faults: &[FAULTS],
 };
 
 const FUNCTIONS: &[Function] = &[

@@ -21,7 +21,7 @@ const VTTBR_FIELDS: u32 = 18;
 
 pub const LAYER: Layer = Layer {
     functions: FUNCTIONS,
-    faults: FAULTS,
+    faults: &[FAULTS],
 };
 
 const FUNCTIONS: &[Function] = &[

@@ -1,3 +1,10 @@
+-- `lands` meets its contract: the edge counts, and its table has leaves of the span.
+use mathlib.Core.Bool.{true}
+use mathlib.Core.Path.{_≡_, _∙_, sym}
+use borrow.Author.Tests.{not-true, not-false}
+use denote.Ref.{now}
+use Rattle.edge.specs.Edge.{counts}
+use Rattle.exact.specs.Exact.{lands}
 use borrow.Author.Needs.{needs}
 use Rattle.exact.proofs.lands.Statement.{statement}
 use Rattle.exact.proofs.lands.Tie as tie
@@ -7,41 +14,44 @@ use Rattle.edge.proofs.Edge.counts.Reads as counts-reads
 use Rattle.p2m.proofs.Span.code.Reads as code-reads
 use Rattle.p2m.proofs.span_of_table.Reads as span-of-table-reads
 
--- src/lib.rt:85:9
+counted : (c : tie.Else1) → let a = c .before .before .args in counts (now (a .frames)) (a .dom) (a .e) ≡ true
+counted c = let v = c .before .counts in sym (v .ensures) ∙ not-false (v .result) (c .if1 .left)
+
 counts-requires : tie.Need-counts-requires
 counts-requires c κs = search needs
 
--- src/lib.rt:86:9
 returns : tie.Need-returns
-returns c = ?
+unfolding lands
+returns c = let v = c .before .counts in rw (sym (v .ensures) ∙ not-true (v .result) (c .if1 .taken))
 
--- src/lib.rt:88:11
 span-of-table-requires : tie.Need-span-of-table-requires
 span-of-table-requires c κs = search needs
 
--- src/lib.rt:89:27
 enum-known-found : tie.Need-enum-known-found
 enum-known-found c = search needs
 
--- src/lib.rt:89:37
 code-requires : tie.Need-code-requires
 code-requires c κs = search needs
 
--- src/lib.rt:89:53
 code-requires-2 : tie.Need-code-requires-2
 code-requires-2 c κs = search needs
 
--- src/lib.rt:90:35
 enum-told : tie.Need-enum-told
 enum-told c = search needs
 
--- src/lib.rt:82:1
 returns-2 : tie.Need-returns-2
-returns-2 c = ?
+unfolding lands
+returns-2 c =
+    let v = c .before in
+    let found = v .before .before in
+    let t = found .before .before in
+    rw (counted (t .before), sym (t .span-of-table .ensures) ∙ found .found .given .1, v .code .ensures, c .code2 .ensures)
 
--- src/lib.rt:82:1
 returns-3 : tie.Need-returns-3
-returns-3 c = ?
+unfolding lands
+returns-3 c =
+    let t = c .before .before in
+    rw (counted (t .before), sym (t .span-of-table .ensures) ∙ c .enum-told .given .1)
 
 pub lands-spec : {M : Type 1} → statement M
 lands-spec =

@@ -1,3 +1,10 @@
+-- `note` meets its contract: an edge past the list is no entry's.
+use mathlib.Core.Path.{_∙_, sym, ap}
+use native.Mathlib.Omega.{arith}
+use lib.ListN.{getD, set}
+use denote.Ref.{now}
+use Rattle.perm.specs.Perm.{permCode}
+use Rattle.exact.proofs.After.{stored, stays, elsewhere}
 use borrow.Author.Needs.{needs}
 use Rattle.exact.proofs.note.Statement.{statement}
 use Rattle.exact.proofs.note.Tie as tie
@@ -7,37 +14,43 @@ use Rattle.edge.proofs.Edge.perm.Reads as perm-reads
 use Rattle.exact.proofs.lands.Reads as lands-reads
 use Rattle.perm.proofs.Perm.code.Reads as code-reads
 
--- src/lib.rt:74:17
 cast-child : tie.Need-cast-child
 cast-child c = search needs
 
--- src/lib.rt:76:12
 lands-requires : tie.Need-lands-requires
 lands-requires c κs = search needs
 
--- src/lib.rt:77:29
 perm-requires : tie.Need-perm-requires
 perm-requires c κs = search needs
 
--- src/lib.rt:77:29
 code-requires : tie.Need-code-requires
 code-requires c κs = search needs
 
--- src/lib.rt:77:13
-element-write-wanted : tie.Need-element-write-wanted
-element-write-wanted c = search needs
+slice-write-wanted : tie.Need-slice-write-wanted
+slice-write-wanted c = search needs
 
--- src/lib.rt:71:1
+same-length : tie.Need-same-length
+same-length c = search needs
+
 returns : tie.Need-returns
-returns c = ?
+returns c =
+    let p = c .before in
+    let l = p .before .before in
+    let a = l .before .before .before .before .args in
+    let entry = c .code .ensures ∙ ap permCode (p .perm .ensures) in
+    let told = sym (l .lands .ensures) ∙ p .before .if2 .taken in
+    λ m inside.
+      ap (λ v. getD (set (now (a .wanted)) (a .e .child) v) m 0) entry
+      ∙ stored _ _ _ m (a .e) (now (a .wanted)) told (l .before .if1 .taken)
 
--- src/lib.rt:71:1
 returns-2 : tie.Need-returns-2
-returns-2 c = ?
+returns-2 c = λ m inside. stays _ _ _ m _ _ (sym (c .before .lands .ensures) ∙ c .if2 .left)
 
--- src/lib.rt:71:1
 returns-3 : tie.Need-returns-3
-returns-3 c = ?
+returns-3 c =
+    let a = c .before .before .before .args in
+    let out = c .if1 .left in
+    λ m inside. elsewhere _ _ _ m (a .e) _ (λ e. omega (arith, out, inside, e))
 
 pub note-spec : {M : Type 1} → statement M
 note-spec =
@@ -47,7 +60,8 @@ note-spec =
     lands-requires
     perm-requires
     code-requires
-    element-write-wanted
+    slice-write-wanted
+    same-length
     returns
     returns-2
     returns-3)

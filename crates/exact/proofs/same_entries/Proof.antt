@@ -1,61 +1,81 @@
+-- `same_entries` meets its contract: the first row is that of the entries from m on.
+use Prim.Native.Nat.{_+_, _-_}
+use mathlib.Core.List.{_++_}
+use mathlib.Core.Path.{_≡_, refl, sym, _∙_}
+use native.Mathlib.Omega.{arith}
+use lib.ListN.{getD, drop}
+use borrow.Author.Needs.{needs}
+use borrow.Author.Tests.{eq-eqb, ne-eqb}
+use denote.Ref.{now}
+use Rattle.refusal.proofs.Parts.{from-at, from-end}
+use Rattle.refusal.specs.Table.{first, eachFrom}
+use Rattle.exact.specs.Exact.{row25}
 use Rattle.exact.proofs.same_entries.Statement.{statement}
 use Rattle.exact.proofs.same_entries.Tie as tie
 use Rattle.exact.proofs.same_entries.Reads as reads
 use Rattle.exact.proofs.same_entries.Lts as lts
 
 abbrev Inv-loop : tie.InvT-loop
-Inv-loop dom leaves wanted m₀ m-end m = ?
+Inv-loop dom leaves wanted m₀ m-end m =
+    first (eachFrom (row25 dom (λ k. getD wanted k 0)) 0 leaves)
+    ≡ first (eachFrom (row25 dom (λ k. getD wanted k 0)) m (drop m leaves))
 
 abbrev μ-loop : tie.MeasureT-loop
-μ-loop dom leaves wanted m₀ m-end m = ?
+μ-loop dom leaves wanted m₀ m-end m = m-end - m
 
--- src/lib.rt:41:5
+-- the rows from m on: that of its entry, and those after it
+here :
+    (v : tie.After-shared-slice-known2 Inv-loop μ-loop) →
+    let h = v .before .before .before in
+    let a = h .before .args in
+    let rows = row25 (a .dom) (λ k. getD (now (a .wanted)) k 0) in
+    let m = h .loop .m in
+    eachFrom rows m (drop m (now (a .leaves)))
+    ≡ rows m (getD (now (a .leaves)) m 0) ++ eachFrom rows (m + 1) (drop (m + 1) (now (a .leaves)))
+here v =
+    let turn = v .before .before in
+    let h = turn .before in
+    let a = h .before .args in
+    from-at (now (a .leaves)) (h .loop .m) 0 (turn .loop-test .taken) (row25 (a .dom) (λ k. getD (now (a .wanted)) k 0))
+
 loop-holds : tie.Need-loop-holds Inv-loop μ-loop
-loop-holds c = ?
+loop-holds c = refl
 
--- src/lib.rt:42:12
-shared-slice-read-if1 : tie.Need-shared-slice-read-if1 Inv-loop μ-loop
-shared-slice-read-if1 c = ?
+shared-slice-read-mapped : tie.Need-shared-slice-read-mapped Inv-loop μ-loop
+shared-slice-read-mapped c = search needs
 
--- src/lib.rt:42:25
-element-copy-out-if1 : tie.Need-element-copy-out-if1 Inv-loop μ-loop
-element-copy-out-if1 c = ?
+shared-slice-read-expected : tie.Need-shared-slice-read-expected Inv-loop μ-loop
+shared-slice-read-expected c = search needs
 
--- src/lib.rt:46:25
-shared-slice-read-t15 : tie.Need-shared-slice-read-t15 Inv-loop μ-loop
-shared-slice-read-t15 c = ?
+cast-t14 : tie.Need-cast-t14 Inv-loop μ-loop
+cast-t14 c = let v = c .before .before in omega (arith, v .shared-slice-known .given (v .before .before .loop .m))
 
--- src/lib.rt:46:25
-cast-t16 : tie.Need-cast-t16 Inv-loop μ-loop
-cast-t16 c = ?
+cast-t15 : tie.Need-cast-t15 Inv-loop μ-loop
+cast-t15 c = let v = c .before in omega (arith, v .shared-slice-known2 .given (v .before .before .before .loop .m))
 
--- src/lib.rt:47:27
-element-copy-out-t19 : tie.Need-element-copy-out-t19 Inv-loop μ-loop
-element-copy-out-t19 c = ?
-
--- src/lib.rt:47:27
-cast-t20 : tie.Need-cast-t20 Inv-loop μ-loop
-cast-t20 c = ?
-
--- src/lib.rt:43:13
 returns : tie.Need-returns Inv-loop μ-loop
-returns c = ?
+unfolding row25 first
+returns c =
+    let v = c .before in
+    rw (v .before .before .before .loop .inv, here v, ne-eqb _ _ (c .if1 .taken))
 
--- src/lib.rt:41:9
 add-m : tie.Need-add-m Inv-loop μ-loop
-add-m c = ?
+add-m c = search needs
 
--- src/lib.rt:41:5
 loop-less : tie.Need-loop-less Inv-loop μ-loop
-loop-less c = ?
+loop-less c = search needs
 
--- src/lib.rt:41:5
 loop-again : tie.Need-loop-again Inv-loop μ-loop
-loop-again c = ?
+unfolding row25
+loop-again c =
+    let v = c .before in
+    rw (v .before .before .before .loop .inv, here v, eq-eqb _ _ (c .if1 .left))
 
--- src/lib.rt:37:1
 returns-2 : tie.Need-returns-2 Inv-loop μ-loop
-returns-2 c = ?
+returns-2 c =
+    let h = c .before in
+    let a = h .before .args in
+    from-end (now (a .leaves)) (h .loop .m) (c .loop-test .left) (row25 (a .dom) (λ k. getD (now (a .wanted)) k 0)) ∙ sym (h .loop .inv)
 
 pub same-entries-spec : {M : Type 1} → statement M
 same-entries-spec =
@@ -64,12 +84,10 @@ same-entries-spec =
     Inv-loop
     μ-loop
     loop-holds
-    shared-slice-read-if1
-    element-copy-out-if1
-    shared-slice-read-t15
-    cast-t16
-    element-copy-out-t19
-    cast-t20
+    shared-slice-read-mapped
+    shared-slice-read-expected
+    cast-t14
+    cast-t15
     returns
     add-m
     loop-less
