@@ -41,5 +41,6 @@ record: libraries
 
 libraries:
 	@mkdir -p target
-	@{ rt check probe probe_layouts && rt staticlib probe && rt staticlib probe_layouts; } \
+	@{ rt check probe probe_layouts probe_maps && \
+	    rt staticlib probe && rt staticlib probe_layouts && rt staticlib probe_maps; } \
 	    >target/staticlib.log 2>&1 || { cat target/staticlib.log; exit 1; }

@@ -1,6 +1,7 @@
 //! Maps beside grants by hand, and all pairs of a few grants.
 
 use crate::authorized::{authorized, Granted};
+use crate::examples::{examples, Example};
 use crate::inputs::altered;
 use crate::maps::MAP_LEN;
 use crate::record_inputs::frame;
@@ -18,7 +19,7 @@ const fn grant(grantee: u32, frame: u32, writable: u32) -> Grant {
 
 /// Changes of a map and the answer to them. Domain 3 has its own frame 1 mapped `Rw`; of the other
 /// frames up to 7, domain 5 owns frame 2 and nobody frame 4.
-const EXAMPLES: &[(&[u64], fn(&mut Granted))] = &[
+const EXAMPLES: &[Example<Granted>] = &[
     (&[0], |_| ()),
     (&[0], |x| x.map.clear()),
     (&[2], |x| x.map.resize(MAP_LEN + 1, 4)),
@@ -88,16 +89,7 @@ fn granted(x: &mut Granted, entry: u8, grants: &[Grant]) {
 
 /// The examples, and all pairs of a few grants beside any entry of a frame.
 pub fn small_granted() -> impl Iterator<Item = Granted> {
-    let examples = EXAMPLES.iter().map(|(answer, change)| {
-        let x = altered(own_frame(), change);
-        assert_eq!(
-            authorized(&x)[..answer.len()],
-            **answer,
-            "the answer to {x}"
-        );
-        x
-    });
-    examples.chain(grant_pairs().flat_map(one_frame))
+    examples(EXAMPLES, own_frame, authorized).chain(grant_pairs().flat_map(one_frame))
 }
 
 fn own_frame() -> Granted {

@@ -1,11 +1,11 @@
 //! Slips of a port that checks maps against grants: in rows 2 and 3, and in what is refused and how.
 
 use crate::authorized::Granted;
-use crate::faults::{fault, with};
-use crate::function::Fault;
+use crate::function::{with, Fault};
 use crate::inputs::{words, Words};
 use crate::layout::ACCEPTED;
 use crate::maps::{self, MAP_LEN};
+use crate::misread;
 use crate::p2m::NOBODY;
 use crate::port::UNWRITTEN;
 use crate::port_maps;
@@ -148,6 +148,19 @@ pub const FAULTS: &[Fault<Granted>] = &[
         },
     ),
 ];
+
+pub const fn fault(
+    name: &'static str,
+    slip: &'static str,
+    alter: fn(&Granted, &mut Words),
+) -> Fault<Granted> {
+    Fault {
+        name,
+        slip,
+        op: (),
+        alter,
+    }
+}
 
 /// The frame that row 23 or 24 refuses.
 pub fn refused(answer: &Words) -> Option<usize> {

@@ -7,7 +7,7 @@ use crate::record_inputs::{domain, flag, frame, frames, other, owner, place, yes
 use crate::records::Grant;
 
 pub fn granted(scale: usize) -> impl Iterator<Item = Granted> {
-    random(Random(20), 20_000 * scale, changed).chain(random(Random(21), 40_000 * scale, crowded))
+    random(Random(20), 40_000 * scale, changed).chain(random(Random(21), 40_000 * scale, crowded))
 }
 
 const CHANGES: [fn(&mut Random, &mut Granted); 8] = [

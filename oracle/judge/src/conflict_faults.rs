@@ -1,8 +1,8 @@
 //! Slips of a port in looking for frames that are in both maps.
 
-use crate::faults::{fault, with};
 use crate::fill::Filling;
-use crate::function::Fault;
+use crate::fill_faults::fault;
+use crate::function::{with, Fault};
 use crate::layout::ACCEPTED;
 use crate::map_inputs::set;
 

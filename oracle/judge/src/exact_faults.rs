@@ -2,8 +2,7 @@
 //! is refused.
 
 use crate::exact::Linked;
-use crate::faults::{fault, with};
-use crate::function::Fault;
+use crate::function::{with, Fault};
 use crate::inputs::Words;
 use crate::layout::ACCEPTED;
 use crate::maps::{self, MAP_LEN};
@@ -173,6 +172,19 @@ pub const FAULTS: &[Fault<Linked>] = &[
         },
     ),
 ];
+
+pub const fn fault(
+    name: &'static str,
+    slip: &'static str,
+    alter: fn(&Linked, &mut Words),
+) -> Fault<Linked> {
+    Fault {
+        name,
+        slip,
+        op: (),
+        alter,
+    }
+}
 
 /// The port's answer after the entries that it refuses so are set to what is due.
 fn without(x: &Linked, so: fn(&Words) -> bool) -> Words {

@@ -4,6 +4,7 @@ use given_core::p2m::DomId;
 use given_s2::leafmap::Span;
 
 use crate::exact::{exact, Linked};
+use crate::examples::{examples, Example};
 use crate::fill::fill;
 use crate::fill_inputs::{changed, crowded};
 use crate::inputs::{altered, random, Random};
@@ -13,7 +14,7 @@ use crate::record_inputs::{edge_pairs, frame, kinds, leaf, place, tables, writab
 
 /// Changes of a map without entries or edges, and the answer to them. Frame 0 is the domain's table
 /// of the span, and frame 1 that of the other span.
-const EXAMPLES: &[(&[u64], fn(&mut Linked))] = &[
+const EXAMPLES: &[Example<Linked>] = &[
     (&[0], |_| ()),
     (&[0], |x| x.map.clear()),
     (&[2], |x| x.map.resize(MAP_LEN + 1, 4)),
@@ -65,8 +66,9 @@ const EXAMPLES: &[(&[u64], fn(&mut Linked))] = &[
 
 /// The examples, tables of any kind, and all pairs of a few edges beside all maps of two entries.
 pub fn small_linked(span: Span) -> impl Iterator<Item = Linked> {
+    let unmapped = move || without_edges(3, vec![0; MAP_LEN], span);
     let of_kind = kinds().map(move |kind| {
-        altered(without_edges(3, vec![0; MAP_LEN], span), |x| {
+        altered(unmapped(), |x| {
             x.frames[0].kind = kind;
             x.edges = vec![leaf(0, 1)];
         })
@@ -78,7 +80,9 @@ pub fn small_linked(span: Span) -> impl Iterator<Item = Linked> {
             ..without_edges(0, map, span)
         })
     });
-    examples(span).chain(of_kind).chain(paired)
+    examples(EXAMPLES, unmapped, exact)
+        .chain(of_kind)
+        .chain(paired)
 }
 
 fn without_edges(dom: DomId, map: Vec<u8>, span: Span) -> Linked {
@@ -97,14 +101,6 @@ fn without_edges(dom: DomId, map: Vec<u8>, span: Span) -> Linked {
         edges: Vec::new(),
         frames,
     }
-}
-
-fn examples(span: Span) -> impl Iterator<Item = Linked> {
-    EXAMPLES.iter().map(move |(answer, change)| {
-        let x = altered(without_edges(3, vec![0; MAP_LEN], span), change);
-        assert_eq!(exact(&x)[..answer.len()], **answer, "the answer to {x}");
-        x
-    })
 }
 
 pub fn linked(span: Span, scale: usize) -> impl Iterator<Item = Linked> {

@@ -2,6 +2,7 @@
 
 use given_core::p2m::DomId;
 
+use crate::examples::{examples, Example};
 use crate::fill::{fill, Filling};
 use crate::inputs::altered;
 use crate::maps::MAP_LEN;
@@ -9,7 +10,7 @@ use crate::record_inputs::{edge_pairs, frame, kinds, leaf, tables, writable_leaf
 use crate::records::Edge;
 
 /// Changes of a filling without edges, and the answer to them.
-const EXAMPLES: &[(&[u64], fn(&mut Filling))] = &[
+const EXAMPLES: &[Example<Filling>] = &[
     (&[0], |_| ()),
     (&[2], |x| x.base.resize(MAP_LEN + 1, 1)),
     (&[2], |x| x.sup.resize(MAP_LEN + 1, 1)),
@@ -108,7 +109,7 @@ pub fn small_fillings() -> impl Iterator<Item = Filling> {
         edges,
         ..without_edges(0, 2, 1)
     });
-    examples()
+    examples(EXAMPLES, || without_edges(3, MAP_LEN, MAP_LEN), fill)
         .chain([four_leaves()])
         .chain(of_kind)
         .chain(paired)
@@ -122,15 +123,6 @@ fn without_edges(dom: DomId, base: usize, sup: usize) -> Filling {
         base: vec![0xff; base],
         sup: vec![2; sup],
     }
-}
-
-fn examples() -> impl Iterator<Item = Filling> {
-    EXAMPLES.iter().map(|(answer, change)| {
-        let x = altered(without_edges(3, MAP_LEN, MAP_LEN), change);
-        let words = fill(&x).words;
-        assert_eq!(words[..answer.len()], **answer, "document 01 answers {x}");
-        x
-    })
 }
 
 /// Document 01's four leaves: W, W and X, X, and plain.

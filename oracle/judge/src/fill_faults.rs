@@ -1,8 +1,7 @@
 //! Slips of a port that fills maps: in clearing and storing, and in rows 2, 15 and 16.
 
-use crate::faults::{fault, with};
 use crate::fill::{Filled, Filling};
-use crate::function::Fault;
+use crate::function::{with, Fault};
 use crate::inputs::{words, Words};
 use crate::layout::ACCEPTED;
 use crate::map_inputs::set;
@@ -10,7 +9,7 @@ use crate::maps::MAP_LEN;
 use crate::port::UNWRITTEN;
 use crate::port_maps;
 use crate::record_inputs::{L1, L2};
-use crate::records::Edge;
+use crate::records::{Edge, Frame};
 
 pub const FAULTS: &[Fault<Filling>] = &[
     fault(
@@ -75,8 +74,7 @@ pub const FAULTS: &[Fault<Filling>] = &[
         "leaves of an L1 table are super, those of an L2 table base",
         |x, filled| {
             *filled = with(x, |x| {
-                let has_span = |kind| kind == L1 || kind == L2;
-                for frame in x.frames.iter_mut().filter(|frame| has_span(frame.kind)) {
+                for frame in x.frames.iter_mut().filter(|frame| !spanless(frame)) {
                     frame.kind = L1 + L2 - frame.kind;
                 }
             });
@@ -92,9 +90,20 @@ pub const FAULTS: &[Fault<Filling>] = &[
         "the kinds of others' tables are tested too",
         |x, filled| {
             *filled = with(x, |x| {
-                let spanless = |kind| kind != L1 && kind != L2;
-                for frame in x.frames.iter_mut().filter(|frame| spanless(frame.kind)) {
+                for frame in x.frames.iter_mut().filter(|frame| spanless(frame)) {
                     frame.owner = x.dom.into();
+                }
+            });
+        },
+    ),
+    fault(
+        "fill-row-15-of-interior-edges",
+        "the kinds of the parents of interior edges are tested too",
+        |x, filled| {
+            let parent = |edge: &Edge| x.frames.get(edge.parent as usize);
+            *filled = with(x, |x| {
+                for edge in &mut x.edges {
+                    edge.leaf |= u32::from(parent(edge).is_some_and(spanless));
                 }
             });
         },
@@ -180,6 +189,19 @@ pub const FAULTS: &[Fault<Filling>] = &[
     ),
 ];
 
+pub const fn fault(
+    name: &'static str,
+    slip: &'static str,
+    alter: fn(&Filling, &mut Filled),
+) -> Fault<Filling> {
+    Fault {
+        name,
+        slip,
+        op: (),
+        alter,
+    }
+}
+
 fn keep(before: &[u8], after: &mut [u8]) {
     for (after, before) in after.iter_mut().zip(before) {
         if *after == 0 {
@@ -218,4 +240,8 @@ fn code(edge: Edge) -> u8 {
         (0, _) => 3,
         _ => 2,
     }
+}
+
+fn spanless(frame: &Frame) -> bool {
+    ![L1, L2].contains(&frame.kind)
 }

@@ -4,7 +4,7 @@ use crate::authorized::{self, Granted};
 use crate::exact::{self, Linked};
 use crate::fill::{self, Filling};
 use crate::guard::{self, Scene};
-use crate::inputs::{few_codes, hex, many_codes, one, Inputs, Words};
+use crate::inputs::{altered, few_codes, hex, many_codes, one, Inputs, Words};
 use crate::layout::{self, Fields};
 use crate::port;
 use crate::{absent, desc, p2m, regime};
@@ -86,6 +86,11 @@ pub struct Fault<I: Input = Words> {
     pub op: I::Op,
     /// Turns the port's reply to an input into that of a port with the slip.
     pub alter: fn(&I, &mut I::Reply),
+}
+
+/// The port's reply to the input after a change.
+pub fn with<I: Input<Op = ()> + Clone>(input: &I, change: impl FnOnce(&mut I)) -> I::Reply {
+    altered(input.clone(), change).port(())
 }
 
 pub struct Layer<I: Input = Words> {

@@ -1,9 +1,8 @@
 //! Slips of a port in reading grants.
 
 use crate::authorized::Granted;
-use crate::authorized_faults::refused;
-use crate::faults::{fault, with};
-use crate::function::Fault;
+use crate::authorized_faults::{fault, refused};
+use crate::function::{with, Fault};
 use crate::inputs::Words;
 use crate::p2m::NOBODY;
 use crate::records::Grant;

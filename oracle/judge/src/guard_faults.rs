@@ -1,7 +1,6 @@
 //! Slips of a port's guard, at least one for each of rows 1, 2, 3, 13 and 14.
 
-use crate::faults::{fault, with};
-use crate::function::Fault;
+use crate::function::{with, Fault};
 use crate::guard::{row_13, row_14, row_2, Scene, ARENA_LEN};
 use crate::inputs::{altered, words, Words};
 use crate::layout::{pairs, ACCEPTED, IMAGE_PRESENT, L2_CODE, SUP_FRAMES, TABLES};
@@ -163,3 +162,16 @@ pub const FAULTS: &[Fault<Scene>] = &[
         },
     ),
 ];
+
+const fn fault(
+    name: &'static str,
+    slip: &'static str,
+    alter: fn(&Scene, &mut Words),
+) -> Fault<Scene> {
+    Fault {
+        name,
+        slip,
+        op: (),
+        alter,
+    }
+}

@@ -1,6 +1,5 @@
 //! Slips of a port that validates layouts, at least one for each of rows 4 to 12.
 
-use crate::faults::fault;
 use crate::function::Fault;
 use crate::inputs::{altered, words, Words};
 use crate::layout::{
@@ -289,6 +288,19 @@ pub const FAULTS: &[Fault<Fields>] = &[
         },
     ),
 ];
+
+const fn fault(
+    name: &'static str,
+    slip: &'static str,
+    alter: fn(&Fields, &mut Words),
+) -> Fault<Fields> {
+    Fault {
+        name,
+        slip,
+        op: (),
+        alter,
+    }
+}
 
 /// The port's answer to the layout with one other field.
 fn with(x: &Fields, field: usize, value: u64) -> Words {

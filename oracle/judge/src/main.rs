@@ -11,7 +11,7 @@ mod desc;
 mod exact;
 mod exact_faults;
 mod exact_inputs;
-mod faults;
+mod examples;
 mod fenced;
 mod fill;
 mod fill_examples;

@@ -4,64 +4,65 @@
 use given_core::p2m::DomId;
 
 use crate::exact::Linked;
-use crate::faults::{fault, with};
+use crate::exact_faults;
 use crate::fill::Filling;
-use crate::function::Fault;
+use crate::fill_faults;
+use crate::function::{with, Fault};
 use crate::record_inputs::{frame, L2, L3};
 use crate::records::{Edge, Frame};
 
 pub const FILL: &[Fault<Filling>] = &[
-    fault(
+    fill_faults::fault(
         "fill-execute-first",
         "writable with execute gives Rx",
         |x, reply| *reply = with(x, |x| execute_first(&mut x.edges)),
     ),
-    fault(
+    fill_faults::fault(
         "fill-interior-edges",
         "edges that are no leaves are not skipped",
         |x, reply| *reply = with(x, |x| all_leaves(&mut x.edges)),
     ),
-    fault(
+    fill_faults::fault(
         "fill-child-from-slot",
         "the slot is taken for the child",
         |x, reply| *reply = with(x, |x| child_from_slot(&mut x.edges)),
     ),
-    fault(
+    fill_faults::fault(
         "fill-child-of-16-bits",
         "the high half of the child is lost",
         |x, reply| *reply = with(x, |x| children_of_16_bits(&mut x.edges)),
     ),
-    fault(
+    fill_faults::fault(
         "fill-yes-only-by-1",
         "a flag that is another number than 1 is taken for no",
         |x, reply| *reply = with(x, |x| yes_only_by_1(&mut x.edges)),
     ),
-    fault(
+    fill_faults::fault(
         "fill-foreign-parents",
         "edges of others' tables are not skipped",
         |x, reply| *reply = with(x, |x| all_owned(&mut x.frames, x.dom)),
     ),
-    fault(
+    fill_faults::fault(
         "fill-owner-65536-as-0",
         "owner 65,536 is taken for domain 0",
         |x, reply| *reply = with(x, |x| nobody_as_domain_0(&mut x.frames)),
     ),
-    fault(
+    fill_faults::fault(
         "fill-owner-of-16-bits",
         "the high half of an owner's number is lost",
         |x, reply| *reply = with(x, |x| owners_of_16_bits(&mut x.frames)),
     ),
-    fault(
+    fill_faults::fault(
         "fill-past-the-frames",
         "domain 0 owns the frame just past the list",
         |x, reply| *reply = with(x, |x| x.frames.push(frame(0, 0))),
     ),
-    fault(
+    fill_faults::fault(
         "fill-kind-4-as-super",
         "a leaf of an L3 table is taken for a super page",
         |x, reply| *reply = with(x, |x| l3_as_super(&mut x.frames)),
     ),
-    fault(
+    fill_faults::fault(
         "fill-kind-of-8-bits",
         "kind 258 is taken for 2",
         |x, reply| *reply = with(x, |x| kinds_of_8_bits(&mut x.frames)),
@@ -69,57 +70,57 @@ pub const FILL: &[Fault<Filling>] = &[
 ];
 
 pub const EXACT: &[Fault<Linked>] = &[
-    fault(
+    exact_faults::fault(
         "exact-execute-first",
         "writable with execute gives Rx",
         |x, reply| *reply = with(x, |x| execute_first(&mut x.edges)),
     ),
-    fault(
+    exact_faults::fault(
         "exact-interior-edges",
         "edges that are no leaves are taken too",
         |x, reply| *reply = with(x, |x| all_leaves(&mut x.edges)),
     ),
-    fault(
+    exact_faults::fault(
         "exact-child-from-slot",
         "the slot is taken for the child",
         |x, reply| *reply = with(x, |x| child_from_slot(&mut x.edges)),
     ),
-    fault(
+    exact_faults::fault(
         "exact-child-of-16-bits",
         "the high half of the child is lost",
         |x, reply| *reply = with(x, |x| children_of_16_bits(&mut x.edges)),
     ),
-    fault(
+    exact_faults::fault(
         "exact-yes-only-by-1",
         "a flag that is another number than 1 is taken for no",
         |x, reply| *reply = with(x, |x| yes_only_by_1(&mut x.edges)),
     ),
-    fault(
+    exact_faults::fault(
         "exact-foreign-parents",
         "the owner of the parent is not tested",
         |x, reply| *reply = with(x, |x| all_owned(&mut x.frames, x.dom)),
     ),
-    fault(
+    exact_faults::fault(
         "exact-owner-65536-as-0",
         "owner 65,536 is taken for domain 0",
         |x, reply| *reply = with(x, |x| nobody_as_domain_0(&mut x.frames)),
     ),
-    fault(
+    exact_faults::fault(
         "exact-owner-of-16-bits",
         "the high half of an owner's number is lost",
         |x, reply| *reply = with(x, |x| owners_of_16_bits(&mut x.frames)),
     ),
-    fault(
+    exact_faults::fault(
         "exact-past-the-frames",
         "domain 0 owns a table just past the list",
         |x, reply| *reply = with(x, |x| x.frames.push(frame(0, x.kind()))),
     ),
-    fault(
+    exact_faults::fault(
         "exact-kind-4-as-super",
         "a leaf of an L3 table is taken for a super page",
         |x, reply| *reply = with(x, |x| l3_as_super(&mut x.frames)),
     ),
-    fault(
+    exact_faults::fault(
         "exact-kind-of-8-bits",
         "kind 258 is taken for 2",
         |x, reply| *reply = with(x, |x| kinds_of_8_bits(&mut x.frames)),
@@ -157,13 +158,13 @@ fn all_owned(frames: &mut [Frame], dom: DomId) {
     frames.iter_mut().for_each(|frame| frame.owner = dom.into());
 }
 
-fn nobody_as_domain_0(frames: &mut [Frame]) {
+pub fn nobody_as_domain_0(frames: &mut [Frame]) {
     for frame in frames.iter_mut().filter(|frame| frame.owner == 65_536) {
         frame.owner = 0;
     }
 }
 
-fn owners_of_16_bits(frames: &mut [Frame]) {
+pub fn owners_of_16_bits(frames: &mut [Frame]) {
     frames.iter_mut().for_each(|frame| frame.owner %= 1 << 16);
 }
 

@@ -1,0 +1,32 @@
+-- The outcomes of the filling and of the two checks as eight numbers, with what the filling leaves in both maps.
+use Prim.Native.Nat.{ℕ}
+use mathlib.Core.List.{List, [], _∷_, map}
+use lib.Dec.{eqb}
+use Rattle.authority.specs.Authority.{authorityRows}
+use Rattle.edge.specs.Edge.{edgeOf}
+use Rattle.edge.specs.Grant.{grantOf}
+use Rattle.exact.specs.Exact.{exactRows}
+use Rattle.fields.specs.Named.{pick}
+use Rattle.leafmap.specs.Filling.{Filling, filled}
+use Rattle.p2m.specs.declared.Span.the-variants.{Base, Super}
+use Rattle.p2m.specs.declared.Span.{Span}
+use Rattle.refusal.specs.Outcome.{outcomeWords}
+use Rattle.refusal.specs.Table.{first}
+
+-- outcome, base, super
+abbrev pub fillingWords : Filling → List (List ℕ)
+fillingWords f = outcomeWords (f .outcome) ∷ f .base ∷ f .sup ∷ []
+
+abbrev pub fillAnswer : List (List ℕ) → List (List ℕ) → ℕ → List ℕ → List ℕ → List (List ℕ)
+fillAnswer edges frames dom base sup = fillingWords (filled frames dom (map edgeOf edges) base sup)
+
+abbrev pub authorizedAnswer : ℕ → List ℕ → List (List ℕ) → List (List ℕ) → List ℕ
+authorizedAnswer dom leaves frames grants = outcomeWords (first (authorityRows frames (map grantOf grants) dom leaves))
+
+-- zero is base, all else super
+abbrev pub spanNumbered : ℕ → Span
+spanNumbered n = pick (eqb n 0) Base Super
+
+abbrev pub exactAnswer : ℕ → List ℕ → ℕ → List (List ℕ) → List (List ℕ) → List ℕ
+exactAnswer dom leaves isSuper edges frames =
+    outcomeWords (first (exactRows frames dom (spanNumbered isSuper) (map edgeOf edges) leaves))
