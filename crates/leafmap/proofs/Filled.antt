@@ -5,27 +5,19 @@ use mathlib.Core.Path.{_≡_, refl, sym, ap, _∙_}
 use lib.ListN.{length}
 use Rattle.edge.specs.declared.Edge.{Edge}
 use Rattle.refusal.specs.Outcome.{outcomeOf, rowOf}
-use Rattle.refusal.specs.Table.{Outcome, accepted, refused, first, eachFrom}
+use Rattle.refusal.specs.Table.{Row, accepted, refused, first, eachFrom}
 use Rattle.refusal.specs.declared.Refusal.{Refusal}
 use Rattle.refusal.specs.declared.Verdict.the-variants.{Accepted, Refused}
 use Rattle.refusal.specs.declared.Verdict.{Verdict}
 use Rattle.rows.specs.Rows.{lengthRows}
 use Rattle.leafmap.specs.Filling.{Filling, filling, placedAll, onward, row17, conflicts, cleared, filledInto, filled}
-
--- a step follows what was accepted, and none what was refused
-on : (step : Filling → Filling) (f : Filling) → f .outcome ≡ accepted → onward step f ≡ step f
-unfolding onward
-on step f e = rw e
-
-off : (step : Filling → Filling) (f : Filling) (r : Refusal) → f .outcome ≡ refused (rowOf r) → onward step f ≡ f
-unfolding onward
-off step f r e = rw e
+use Rattle.leafmap.proofs.Onward.{on, off}
 
 module _ (frames : List (List ℕ)) (dom : ℕ) (edges : List Edge) where
   module _ (base sup : List ℕ) (v : Verdict) (e : outcomeOf v ≡ first (lengthRows base sup)) where
     pub too-long : (r : Refusal) → v ≡ Refused r → filling base sup (outcomeOf v) ≡ filled frames dom edges base sup
     unfolding filled
-    too-long r told = ap (filling base sup) e ∙ sym (off _ _ r (sym e ∙ ap outcomeOf told))
+    too-long r told = ap (filling base sup) e ∙ sym (off _ _ (rowOf r) (sym e ∙ ap outcomeOf told))
 
     pub fitting : v ≡ Accepted → filled frames dom edges base sup ≡ filledInto frames dom edges (length base) (length sup)
     unfolding filled
@@ -38,7 +30,7 @@ module _ (frames : List (List ℕ)) (dom : ℕ) (edges : List Edge) where
     pub edge-refused : (r : Refusal) → v ≡ Refused r → filling b s (outcomeOf v) ≡ filledInto frames dom edges n m
     unfolding filledInto
     edge-refused r told =
-        e ∙ sym (off _ _ r (ap (λ (f : Filling). f .outcome) (sym e) ∙ ap outcomeOf told))
+        e ∙ sym (off _ _ (rowOf r) (ap (λ (f : Filling). f .outcome) (sym e) ∙ ap outcomeOf told))
 
     pub edges-placed :
         v ≡ Accepted → filledInto frames dom edges n m ≡ filling b s (first (eachFrom (row17 s) 0 b))

@@ -1,3 +1,4 @@
 pub mod Filled
+pub mod Onward
 pub mod Placed
 pub mod Zeros

@@ -1,52 +1,43 @@
 -- Edges placed in order: one is placed before the others, and after a refusal nothing is.
 use Prim.Native.Nat.{ℕ, _+_, _≤_, _<_}
 use mathlib.Core.List.{List, [], _∷_, map}
-use mathlib.Core.Path.{_≡_, refl}
+use mathlib.Core.Path.{_≡_, refl, sym, ap, _∙_}
 use native.Mathlib.Numerals.{add-one}
 use lib.ListN.{length, getD, drop, drop-of-length-le}
 use lib.Seq.{drop-cons}
 use Rattle.edge.specs.Edge.{edgeOf}
 use Rattle.edge.specs.declared.Edge.{Edge}
-use Rattle.refusal.specs.Outcome.{outcomeOf, rowOf}
 use Rattle.refusal.specs.Table.{Row, accepted, refused}
-use Rattle.refusal.specs.declared.Refusal.{Refusal}
-use Rattle.refusal.specs.declared.Verdict.the-variants.{Refused}
-use Rattle.refusal.specs.declared.Verdict.{Verdict}
-use Rattle.leafmap.specs.Filling.{filling, placed, placedAll, onward}
+use Rattle.leafmap.specs.Filling.{Filling, placed, placedAll}
+use Rattle.leafmap.proofs.Onward.{on, off}
 
 module _ (frames : List (List ℕ)) (dom : ℕ) where
-  pub place-next :
-      (e : Edge) (es : List Edge) (b s : List ℕ) →
-      placedAll frames dom (e ∷ es) (filling b s accepted)
-      ≡ placedAll frames dom es (placed frames dom (filling b s accepted) e)
-  unfolding placedAll onward
-  place-next e es b s = refl
-
-  pub place-none : (b s : List ℕ) → placedAll frames dom [] (filling b s accepted) ≡ filling b s accepted
+  pub place-none : (f : Filling) → placedAll frames dom [] f ≡ f
   unfolding placedAll
-  place-none b s = refl
+  place-none f = refl
 
-  stopped :
-      (es : List Edge) (b s : List ℕ) (r : Row) →
-      placedAll frames dom es (filling b s (refused r)) ≡ filling b s (refused r)
-  unfolding placedAll onward
-  stopped [] b s r = refl
-  stopped (e ∷ es) b s r = stopped es b s r
+  pub place-next :
+      (e : Edge) (es : List Edge) (f : Filling) → f .outcome ≡ accepted →
+      placedAll frames dom (e ∷ es) f ≡ placedAll frames dom es (placed frames dom f e)
+  unfolding placedAll
+  place-next e es f a = ap (placedAll frames dom es) (on (λ h. placed frames dom h e) f a)
 
-  pub place-stop :
-      (es : List Edge) (b s : List ℕ) (v : Verdict) (r : Refusal) →
-      v ≡ Refused r → placedAll frames dom es (filling b s (outcomeOf v)) ≡ filling b s (outcomeOf v)
-  place-stop es b s v r e = rw e (stopped es b s (rowOf r))
+  pub place-stop : (es : List Edge) (f : Filling) (r : Row) → f .outcome ≡ refused r → placedAll frames dom es f ≡ f
+  unfolding placedAll
+  place-stop [] f r e = refl
+  place-stop (x ∷ es) f r e =
+      ap (placedAll frames dom es) (off (λ h. placed frames dom h x) f r e) ∙ place-stop es f r e
 
-  module _ (rows : List (List ℕ)) (i : ℕ) (b s : List ℕ) where
+  module _ (rows : List (List ℕ)) (i : ℕ) (f : Filling) where
     pub place-at :
-        i < length rows →
-        placedAll frames dom (map edgeOf (drop i rows)) (filling b s accepted)
-        ≡ placedAll frames dom (map edgeOf (drop (i + 1) rows))
-          (placed frames dom (filling b s accepted) (edgeOf (getD rows i [])))
-    place-at inside = rw (add-one, drop-cons rows i [] inside, place-next)
+        i < length rows → f .outcome ≡ accepted →
+        placedAll frames dom (map edgeOf (drop i rows)) f
+        ≡ placedAll frames dom (map edgeOf (drop (i + 1) rows)) (placed frames dom f (edgeOf (getD rows i [])))
+    place-at inside a =
+        ap (λ xs. placedAll frames dom (map edgeOf xs) f) (drop-cons rows i [] inside)
+        ∙ place-next (edgeOf (getD rows i [])) _ f a
+        ∙ ap (λ k. placedAll frames dom (map edgeOf (drop k rows)) (placed frames dom f (edgeOf (getD rows i [])))) (sym (add-one i))
 
-    pub place-end :
-        length rows ≤ i →
-        placedAll frames dom (map edgeOf (drop i rows)) (filling b s accepted) ≡ filling b s accepted
-    place-end outside = rw (drop-of-length-le rows outside, place-none)
+    pub place-end : length rows ≤ i → placedAll frames dom (map edgeOf (drop i rows)) f ≡ f
+    place-end outside =
+        ap (λ xs. placedAll frames dom (map edgeOf xs) f) (drop-of-length-le rows outside) ∙ place-none f

@@ -1,5 +1,5 @@
--- What it says that no row applies: of each part of a list of rows, and of a row's test.
-use Prim.Native.Nat.{ℕ, zero, suc, _+_, _<_}
+-- What it says that no row applies, of each part of a list of rows and of a row's test; and when none does.
+use Prim.Native.Nat.{ℕ, zero, suc, _+_, _<_, zero-le, suc-le-suc}
 use mathlib.Core.Bool.{Bool, true, false}
 use mathlib.Core.List.{List, [], _∷_, _++_, flatMap}
 use mathlib.Core.Path.{_≡_, refl}
@@ -7,12 +7,15 @@ use native.Mathlib.Nat.{le-of-suc-le-suc, not-suc-le-zero}
 use native.Mathlib.Omega.{arith}
 use lib.ListN.{length, getD}
 use Rattle.refusal.specs.All.{All, AllPairs}
-use Rattle.refusal.specs.Table.{Row, accepted, first, given, refuseIf, each, eachFrom, pairs}
+use Rattle.refusal.specs.Table.{Row, accepted, refused, first, given, refuseIf, each, eachFrom, pairs}
 
 pub none : (rows : List Row) → first rows ≡ accepted → rows ≡ []
 unfolding first
 none [] e = refl
 none (r ∷ rs) e = absurd (let z : _≡_ {A = ℕ} 0 1 = cc in omega arith)
+
+pub refused≢accepted : (r : Row) → refused r ≡ accepted → ⊥
+refused≢accepted r e = absurd (let z : _≡_ {A = ℕ} 0 1 = cc in omega arith)
 
 pub accept : (rows : List Row) → rows ≡ [] → first rows ≡ accepted
 unfolding first
@@ -51,6 +54,22 @@ from f k (x ∷ xs) d e zero h =
 from f k (x ∷ xs) d e (suc i) h =
     let s : k + suc i ≡ suc k + i = omega arith in
     rw s (from f (suc k) xs d (both (f k x) (eachFrom f (suc k) xs) e .1) i (le-of-suc-le-suc h))
+
+nowhere :
+    {A : Type 0} (f : ℕ → A → List Row) (k : ℕ) (xs : List A) (d : A) →
+    ((i : ℕ) → i < length xs → f (k + i) (getD xs i d) ≡ []) → eachFrom f k xs ≡ []
+unfolding eachFrom
+nowhere f k [] d all = refl
+nowhere f k (x ∷ xs) d all =
+    let z : k + 0 ≡ k = omega arith in
+    let here : f k x ≡ [] = rw z at (all 0 (suc-le-suc zero-le)) in
+    let later = nowhere f (suc k) xs d (λ i h. let s : suc k + i ≡ k + suc i = omega arith in rw s (all (suc i) (suc-le-suc h))) in
+    rw (here, later)
+
+pub from-nowhere :
+    {A : Type 0} (f : ℕ → A → List Row) (xs : List A) (d : A) →
+    ((i : ℕ) → i < length xs → f i (getD xs i d) ≡ []) → eachFrom f 0 xs ≡ []
+from-nowhere f xs d all = nowhere f 0 xs d (λ i h. let s : 0 + i ≡ i = omega arith in rw s (all i h))
 
 pub from-none :
     {A : Type 0} (f : ℕ → A → List Row) (xs : List A) (d : A) →

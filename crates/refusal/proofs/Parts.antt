@@ -1,11 +1,10 @@
 -- The rows of a list from a position on: those of the element there, and those from the next position on.
-use Prim.Native.Nat.{ℕ, zero, suc, _+_, _≤_, _<_}
-use mathlib.Core.List.{List, [], _∷_, _++_, flatMap}
+use Prim.Native.Nat.{ℕ, _+_, _≤_, _<_}
+use mathlib.Core.List.{List, _++_, flatMap}
 use mathlib.Core.Path.{_≡_}
-use native.Mathlib.Nat.{le-of-suc-le-suc, not-suc-le-zero}
 use native.Mathlib.Numerals.{add-one}
-use lib.ListN.{length, getD, drop}
-use lib.Seq.{drop-cons, drop-nil}
+use lib.ListN.{length, getD, drop, drop-of-length-le}
+use lib.Seq.{drop-cons}
 use Rattle.refusal.specs.Table.{Row, accepted, first, each, eachFrom, pairs}
 
 module _ {A : Type 0} (xs : List A) (i : ℕ) (d : A) (inside : i < length xs) where
@@ -25,20 +24,15 @@ module _ {A : Type 0} (xs : List A) (i : ℕ) (d : A) (inside : i < length xs) w
   unfolding eachFrom
   from-at f = rw (add-one, drop-cons xs i d)
 
-past : {A : Type 0} (xs : List A) (i : ℕ) → length xs ≤ i → drop i xs ≡ []
-past [] i h = drop-nil i
-past (x ∷ xs) zero h = absurd (not-suc-le-zero h)
-past (x ∷ xs) (suc i) h = past xs i (le-of-suc-le-suc h)
-
 module _ {A : Type 0} (xs : List A) (i : ℕ) (outside : length xs ≤ i) where
   pub each-end : (f : A → List Row) → accepted ≡ first (each f (drop i xs))
   unfolding first flatMap
-  each-end f = rw (past xs i outside)
+  each-end f = rw (drop-of-length-le xs outside)
 
   pub pairs-end : (f : A → A → List Row) → accepted ≡ first (pairs f (drop i xs))
   unfolding first pairs
-  pairs-end f = rw (past xs i outside)
+  pairs-end f = rw (drop-of-length-le xs outside)
 
   pub from-end : (f : ℕ → A → List Row) → accepted ≡ first (eachFrom f i (drop i xs))
   unfolding first eachFrom
-  from-end f = rw (past xs i outside)
+  from-end f = rw (drop-of-length-le xs outside)

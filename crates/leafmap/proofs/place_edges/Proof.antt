@@ -6,7 +6,7 @@ use lib.ListN.{length, drop}
 use borrow.Author.Needs.{needs}
 use denote.Ref.{now}
 use Rattle.edge.specs.Edge.{edgeOf}
-use Rattle.refusal.specs.Outcome.{outcomeOf}
+use Rattle.refusal.specs.Outcome.{outcomeOf, rowOf}
 use Rattle.refusal.specs.Table.{accepted}
 use Rattle.leafmap.specs.Filling.{Filling, filling, placed, placedAll}
 use Rattle.leafmap.proofs.Placed.{place-at, place-end, place-stop}
@@ -60,9 +60,10 @@ turn v =
     let o = v .before .before .before in
     let in-loop = o .before .before in
     let h = in-loop .before in
-    let step = placed (now (a .frames)) (a .dom) (filling (h .loop .base) (h .loop .sup) accepted) in
+    let so-far = filling (h .loop .base) (h .loop .sup) accepted in
+    let step = placed (now (a .frames)) (a .dom) so-far in
     h .loop .inv .0
-    ∙ place-at (now (a .frames)) (a .dom) (now (a .edges)) (h .loop .i) (h .loop .base) (h .loop .sup) (in-loop .loop-test .taken)
+    ∙ place-at (now (a .frames)) (a .dom) (now (a .edges)) (h .loop .i) so-far (in-loop .loop-test .taken) refl
     ∙ ap (rest v) (ap step (sym (o .of .ensures)) ∙ sym (v .place-edge .ensures))
 
 loop-holds : tie.Need-loop-holds Inv-loop μ-loop
@@ -96,7 +97,7 @@ returns : tie.Need-returns Inv-loop μ-loop
 returns c =
     let v = c .before .before .before .before .before .before in
     let refused = c .enum-told2 .given in
-    sym (turn v ∙ place-stop _ _ _ _ _ (v .place-edge .result) (refused .0 .0) (refused .1))
+    sym (turn v ∙ place-stop _ _ _ _ (rowOf (refused .0 .0)) (ap outcomeOf (refused .1)))
 
 add-i : tie.Need-add-i Inv-loop μ-loop
 add-i c = search needs
@@ -120,7 +121,7 @@ returns-2 : tie.Need-returns-2 Inv-loop μ-loop
 returns-2 c =
     let h = c .before in
     let a = h .before .before .before .args in
-    sym (h .loop .inv .0 ∙ place-end _ _ (now (a .edges)) (h .loop .i) _ _ (c .loop-test .left))
+    sym (h .loop .inv .0 ∙ place-end _ _ (now (a .edges)) (h .loop .i) _ (c .loop-test .left))
 
 pub place-edges-spec : {M : Type 1} → statement M
 place-edges-spec =

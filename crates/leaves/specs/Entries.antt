@@ -1,0 +1,49 @@
+-- What edges grant: the entries of the filling, by the last edge into each frame; and where a refused filling stops.
+use Prim.Native.Nat.{ℕ, _≤_}
+use mathlib.Core.List.{List, [], _∷_, _++_}
+use mathlib.Core.Path.{_≡_}
+use lib.ListN.{length, getD}
+use Rattle.edge.specs.declared.Edge.{Edge}
+use Rattle.exact.specs.Exact.{expected, exactRows}
+use Rattle.leafmap.specs.Filling.{Filling, filling, mapOf, placed, placedAll, cleared, filledInto, filled}
+use Rattle.p2m.specs.declared.Span.{Span}
+use Rattle.refusal.specs.Table.{Row, accepted, refused, first}
+
+-- accepted: an entry is what the last edge into its frame gives, and no edge gives a frame past the map any
+abbrev pub Entries : Type 0
+Entries =
+    (frames : List (List ℕ)) (dom : ℕ) (edges : List Edge) (n m : ℕ) →
+    filledInto frames dom edges n m .outcome ≡ accepted →
+    (s : Span) (p : ℕ) → getD (mapOf s (filledInto frames dom edges n m)) p 0 ≡ expected frames dom s edges p
+
+-- accepted fillings of the same edges at any map lengths agree entry by entry, with 0 past the end
+abbrev pub SameEntries : Type 0
+SameEntries =
+    (frames : List (List ℕ)) (dom : ℕ) (edges : List Edge) (n m n′ m′ : ℕ) →
+    filledInto frames dom edges n m .outcome ≡ accepted →
+    filledInto frames dom edges n′ m′ .outcome ≡ accepted →
+    (s : Span) (p : ℕ) →
+    getD (mapOf s (filledInto frames dom edges n m)) p 0 ≡ getD (mapOf s (filledInto frames dom edges n′ m′)) p 0
+
+-- lent maps that the filling accepted pass `check_exact`, for both spans
+abbrev pub FilledExact : Type 0
+FilledExact =
+    (frames : List (List ℕ)) (dom : ℕ) (edges : List Edge) (base sup : List ℕ) →
+    filled frames dom edges base sup .outcome ≡ accepted →
+    (s : Span) → first (exactRows frames dom s edges (mapOf s (filled frames dom edges base sup))) ≡ accepted
+
+-- 15 and 16: an edge that is refused after all before it were placed, whose entries both maps hold
+pub record Stopped (frames : List (List ℕ)) (dom : ℕ) (edges : List Edge) (f : Filling) (r : Row) : Type 0 where
+  pub before : List Edge
+  pub failing : Edge
+  pub after : List Edge
+  pub split : edges ≡ before ++ failing ∷ after
+  pub placed-before : placedAll frames dom before f .outcome ≡ accepted
+  pub fails : placed frames dom (placedAll frames dom before f) failing .outcome ≡ refused r
+  pub base-held : placedAll frames dom edges f .base ≡ placedAll frames dom before f .base
+  pub sup-held : placedAll frames dom edges f .sup ≡ placedAll frames dom before f .sup
+
+abbrev pub StopsAtEdge : Type 0
+StopsAtEdge =
+    (frames : List (List ℕ)) (dom : ℕ) (edges : List Edge) (n m : ℕ) (r : Row) →
+    placedAll frames dom edges (cleared n m) .outcome ≡ refused r → Stopped frames dom edges (cleared n m) r

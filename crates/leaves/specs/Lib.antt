@@ -1,0 +1,3 @@
+pub mod Authorized
+pub mod Entries
+pub mod Examples
