@@ -7,9 +7,9 @@ use native.Mathlib.Numerals.{add-one}
 use lib.Dec.{eqb}
 use lib.ListN.{length, getD, drop, drop-of-length-le}
 use lib.Seq.{drop-cons}
-use Rattle.authority.specs.Authority.{granted}
 use Rattle.edge.specs.Grant.{grantOf, covers}
 use Rattle.edge.specs.declared.Grant.{Grant}
+use Rattle.authority.specs.Authority.{granted}
 
 module _ (owner dom m : ℕ) (w : Bool) (rows : List (List ℕ)) (i : ℕ) where
   pub granted-at :

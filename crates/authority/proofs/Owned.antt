@@ -2,27 +2,35 @@
 use Prim.Native.Nat.{ℕ}
 use mathlib.Core.Bool.{Bool, true, false, not, _&&_, false≢true}
 use mathlib.Core.List.{List, [], _∷_, _++_}
-use mathlib.Core.Path.{_≡_, refl, sym, _∙_}
+use mathlib.Core.Path.{_≡_, refl, sym, ap, _∙_}
 use lib.Dec.{eqb}
 use Rattle.edge.specs.declared.Grant.{Grant}
 use Rattle.fields.specs.Numbers.{nonzero}
-use Rattle.p2m.specs.declared.Owner.the-variants.{Domain, Nobody}
 use Rattle.p2m.specs.declared.Owner.{Owner}
+use Rattle.p2m.specs.declared.Owner.the-variants.{Domain, Nobody}
+use Rattle.refusal.proofs.None.{accept}
 use Rattle.refusal.specs.Table.{row, accepted, refused, first, refuseIf}
-use Rattle.authority.specs.Authority.{granted, writes, ownerRows}
+use Rattle.authority.specs.Authority.{granted, reaches, writes, ownerRows}
 use Rattle.authority.proofs.Grants.{reading}
 
--- what may be reached for reading, and for writing if it is mapped so, is not refused
+-- t mapped, w for writing, r and x what may be reached for reading and for writing: what may be reached is not refused
 quiet :
-    (a b r : Bool) (vs us : List ℕ) → (b ≡ true → r ≡ true) →
-    first (refuseIf (a && not true) 23 vs ++ refuseIf (b && true && not r) 24 us) ≡ accepted
-unfolding first
-quiet true true r vs us f = rw (f refl)
-quiet true false r vs us f = refl
-quiet false true r vs us f = rw (f refl)
-quiet false false r vs us f = refl
+    (t w r x : Bool) (vs us : List ℕ) →
+    r ≡ true → (w ≡ true → x ≡ true) → refuseIf (t && not r) 23 vs ++ refuseIf (w && r && not x) 24 us ≡ []
+quiet true true r x vs us e f = rw (e, f refl)
+quiet true false r x vs us e f = rw e
+quiet false true r x vs us e f = rw (e, f refl)
+quiet false false r x vs us e f = refl
 
 module _ (grants : List Grant) (dom m entry : ℕ) where
+  pub allowed :
+      (o : Owner) →
+      reaches grants dom m false o ≡ true →
+      (writes entry ≡ true → reaches grants dom m true o ≡ true) → ownerRows grants dom m entry o ≡ []
+  unfolding ownerRows
+  allowed o r x =
+      quiet (nonzero entry) (writes entry) (reaches grants dom m false o) (reaches grants dom m true o) _ _ r x
+
   pub unmapped : (o : Owner) → entry ≡ 0 → first (ownerRows grants dom m entry o) ≡ accepted
   unfolding first ownerRows
   unmapped o e = rw e
@@ -33,15 +41,15 @@ module _ (grants : List Grant) (dom m entry : ℕ) where
 
   module _ (o : ℕ) where
     pub own : eqb o dom ≡ true → first (ownerRows grants dom m entry (Domain o)) ≡ accepted
-    unfolding ownerRows
-    own e = rw e (quiet (nonzero entry) (writes entry) true _ _ (λ _. refl))
+    own e = accept _ (allowed (Domain o) (rw e) (λ _. rw e))
 
     module _ (foreign : eqb o dom ≡ false) where
       pub lent : granted grants o dom m (writes entry) ≡ true → first (ownerRows grants dom m entry (Domain o)) ≡ accepted
-      unfolding ownerRows
       lent g =
-          rw (foreign, reads (writes entry) g)
-          (quiet (nonzero entry) (writes entry) (granted grants o dom m true) _ _ (λ w. rw w at g))
+          accept _
+          (allowed (Domain o)
+          (rw (foreign, reads (writes entry) g))
+          (λ w. rw (foreign, sym (ap (granted grants o dom m) w) ∙ g)))
         where
           reads : (w : Bool) → granted grants o dom m w ≡ true → granted grants o dom m false ≡ true
           reads true h = reading grants o dom m h

@@ -7,8 +7,8 @@ use Rattle.edge.specs.Grant.{covers}
 use Rattle.edge.specs.declared.Grant.{Grant}
 use Rattle.fields.specs.Numbers.{nonzero}
 use Rattle.p2m.specs.Frame.{ownerOf}
-use Rattle.p2m.specs.declared.Owner.the-variants.{Domain, Nobody}
 use Rattle.p2m.specs.declared.Owner.{Owner}
+use Rattle.p2m.specs.declared.Owner.the-variants.{Domain, Nobody}
 use Rattle.perm.specs.Perm.{permCode}
 use Rattle.perm.specs.declared.Perm.the-variants.{Rw}
 use Rattle.refusal.specs.Table.{Row, refuseIf, eachFrom, table}

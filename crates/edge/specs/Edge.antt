@@ -1,17 +1,17 @@
 -- Edges, by document 01 ("Edge and frame records", "Leaf maps").
 use Prim.Native.Nat.{ℕ}
-use mathlib.Core.Bool.{Bool, true, false, _&&_}
+use mathlib.Core.Bool.{Bool, false, _&&_}
 use mathlib.Core.List.{List}
 use lib.Dec.{eqb}
 use lib.ListN.{getD}
 use Rattle.fields.specs.Named.{pick}
 use Rattle.fields.specs.Numbers.{nonzero}
 use Rattle.p2m.specs.Frame.{ownerOf}
-use Rattle.p2m.specs.declared.Owner.the-variants.{Domain, Nobody}
 use Rattle.p2m.specs.declared.Owner.{Owner}
+use Rattle.p2m.specs.declared.Owner.the-variants.{Domain, Nobody}
 use Rattle.perm.specs.Perm.{permCode}
-use Rattle.perm.specs.declared.Perm.the-variants.{Ro, Rw, Rx}
 use Rattle.perm.specs.declared.Perm.{Perm}
+use Rattle.perm.specs.declared.Perm.the-variants.{Ro, Rw, Rx}
 use Rattle.edge.specs.declared.Edge.{Edge}
 
 -- an edge is a record of parent, slot, child, writable, leaf, execute

@@ -8,8 +8,8 @@ use Rattle.edge.specs.declared.Edge.{Edge}
 use Rattle.fields.specs.Named.{pick}
 use Rattle.p2m.specs.Frame.{kindAt, spanCode, spanOfKind}
 use Rattle.p2m.specs.declared.Span.{Span}
-use Rattle.p2m.specs.declared.TableSpan.the-variants.{Leaves, Unsupported}
 use Rattle.p2m.specs.declared.TableSpan.{TableSpan}
+use Rattle.p2m.specs.declared.TableSpan.the-variants.{Leaves, Unsupported}
 use Rattle.refusal.specs.Table.{Row, refuseIf, eachFrom, table}
 use Rattle.rows.specs.Rows.{readRows}
 

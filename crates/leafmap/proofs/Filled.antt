@@ -1,16 +1,16 @@
 -- What a filling leaves, by the outcome of its steps: row 2, the edges, row 17.
 use Prim.Native.Nat.{ℕ}
 use mathlib.Core.List.{List}
-use mathlib.Core.Path.{_≡_, refl, sym, ap, _∙_}
+use mathlib.Core.Path.{_≡_, sym, ap, _∙_}
 use lib.ListN.{length}
 use Rattle.edge.specs.declared.Edge.{Edge}
 use Rattle.refusal.specs.Outcome.{outcomeOf, rowOf}
-use Rattle.refusal.specs.Table.{Row, accepted, refused, first, eachFrom}
+use Rattle.refusal.specs.Table.{first, eachFrom}
 use Rattle.refusal.specs.declared.Refusal.{Refusal}
-use Rattle.refusal.specs.declared.Verdict.the-variants.{Accepted, Refused}
 use Rattle.refusal.specs.declared.Verdict.{Verdict}
+use Rattle.refusal.specs.declared.Verdict.the-variants.{Accepted, Refused}
 use Rattle.rows.specs.Rows.{lengthRows}
-use Rattle.leafmap.specs.Filling.{Filling, filling, placedAll, onward, row17, conflicts, cleared, filledInto, filled}
+use Rattle.leafmap.specs.Filling.{Filling, filling, placedAll, row17, conflicts, cleared, filledInto, filled}
 use Rattle.leafmap.proofs.Onward.{on, off}
 
 module _ (frames : List (List ℕ)) (dom : ℕ) (edges : List Edge) where
@@ -24,16 +24,16 @@ module _ (frames : List (List ℕ)) (dom : ℕ) (edges : List Edge) where
     fitting told = on _ _ (sym e ∙ ap outcomeOf told)
 
   module _
-    (n m : ℕ) (b s : List ℕ) (v : Verdict)
-    (e : filling b s (outcomeOf v) ≡ placedAll frames dom edges (cleared n m))
+      (n m : ℕ) (b s : List ℕ) (v : Verdict)
+      (e : filling b s (outcomeOf v) ≡ placedAll frames dom edges (cleared n m))
     where
-    pub edge-refused : (r : Refusal) → v ≡ Refused r → filling b s (outcomeOf v) ≡ filledInto frames dom edges n m
-    unfolding filledInto
-    edge-refused r told =
-        e ∙ sym (off _ _ (rowOf r) (ap (λ (f : Filling). f .outcome) (sym e) ∙ ap outcomeOf told))
+      pub edge-refused : (r : Refusal) → v ≡ Refused r → filling b s (outcomeOf v) ≡ filledInto frames dom edges n m
+      unfolding filledInto
+      edge-refused r told =
+          e ∙ sym (off _ _ (rowOf r) (ap (λ (f : Filling). f .outcome) (sym e) ∙ ap outcomeOf told))
 
-    pub edges-placed :
-        v ≡ Accepted → filledInto frames dom edges n m ≡ filling b s (first (eachFrom (row17 s) 0 b))
-    unfolding filledInto conflicts
-    edges-placed told =
-        on _ _ (ap (λ (f : Filling). f .outcome) (sym e) ∙ ap outcomeOf told) ∙ ap conflicts (sym e)
+      pub edges-placed :
+          v ≡ Accepted → filledInto frames dom edges n m ≡ filling b s (first (eachFrom (row17 s) 0 b))
+      unfolding filledInto conflicts
+      edges-placed told =
+          on _ _ (ap (λ (f : Filling). f .outcome) (sym e) ∙ ap outcomeOf told) ∙ ap conflicts (sym e)

@@ -9,10 +9,10 @@ use Rattle.edge.specs.declared.Edge.{Edge}
 use Rattle.fields.specs.Named.{pick}
 use Rattle.fields.specs.Numbers.{nonzero}
 use Rattle.p2m.specs.Frame.{kindAt, spanOfKind}
-use Rattle.p2m.specs.declared.Span.the-variants.{Base, Super}
 use Rattle.p2m.specs.declared.Span.{Span}
-use Rattle.p2m.specs.declared.TableSpan.the-variants.{Leaves, Unsupported}
+use Rattle.p2m.specs.declared.Span.the-variants.{Base, Super}
 use Rattle.p2m.specs.declared.TableSpan.{TableSpan}
+use Rattle.p2m.specs.declared.TableSpan.the-variants.{Leaves, Unsupported}
 use Rattle.refusal.specs.Table.{Row, row, Outcome, accepted, refused, first, refuseIf, eachFrom}
 use Rattle.rows.specs.Rows.{lengthRows}
 

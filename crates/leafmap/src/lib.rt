@@ -55,7 +55,13 @@ fn place_edges(
 }
 
 // One edge: the span is its parent's, since a frame does not know how much of the address space maps it.
-pub fn place_edge(e: Edge, frames: &[[u32; 2]], dom: u16, base: &mut [u8], sup: &mut [u8]) -> Verdict
+pub fn place_edge(
+    e: Edge,
+    frames: &[[u32; 2]],
+    dom: u16,
+    base: &mut [u8],
+    sup: &mut [u8],
+) -> Verdict
     ensures { λ r. ⌜ filling (now (base .exit)) (now (sup .exit)) (outcomeOf r) ≡ placed (now (frames .entry)) dom (filling (now (base .entry)) (now (sup .entry)) accepted) e ⌝ }
 {
     if !e.counts(frames, dom) {

@@ -15,10 +15,10 @@ use Rattle.leafmap.proofs.Onward.{on, off}
 use Rattle.leafmap.proofs.Placed.{place-none, place-next, place-stop}
 use Rattle.leafmap.specs.Filling.{Filling, Put, put, mapOf, putIn, inMap, putUnder, placed, placedAll, conflicts, cleared, filledInto}
 use Rattle.p2m.specs.Frame.{kindAt, spanOfKind}
-use Rattle.p2m.specs.declared.Span.the-variants.{Base, Super}
 use Rattle.p2m.specs.declared.Span.{Span}
-use Rattle.p2m.specs.declared.TableSpan.the-variants.{Leaves, Unsupported}
+use Rattle.p2m.specs.declared.Span.the-variants.{Base, Super}
 use Rattle.p2m.specs.declared.TableSpan.{TableSpan}
+use Rattle.p2m.specs.declared.TableSpan.the-variants.{Leaves, Unsupported}
 use Rattle.refusal.proofs.None.{refused≢accepted}
 use Rattle.refusal.specs.Table.{row, Outcome, accepted, refused}
 use Rattle.leaves.specs.Entries.{Entries, SameEntries}

@@ -1,11 +1,10 @@
 -- Maps that the filling accepted pass `check_exact`: they are as long as they were, hold codes, and their entries are the expected ones.
 use Prim.Native.Nat.{ℕ, _≤_, zero-le}
-use mathlib.Core.Bool.{Bool, true, false, not, _&&_}
+use mathlib.Core.Bool.{Bool, true, false, _&&_}
 use mathlib.Core.List.{List, [], _∷_, flatMap}
 use mathlib.Core.Path.{_≡_, refl, sym, ap, _∙_}
 use lib.Dec.{ltb, eqb, lit≤}
 use lib.ListN.{length, getD, length-set, length-replicate}
-use native.Mathlib.Omega.{arith}
 use borrow.Author.Tests.{ltb-false, le-ltb, eq-eqb}
 use Rattle.edge.specs.Edge.{entryOf, counts}
 use Rattle.edge.specs.declared.Edge.{Edge}
@@ -13,17 +12,16 @@ use Rattle.exact.specs.Exact.{lands, afterEdge, afterEdges, expected, row25, ex
 use Rattle.fields.specs.Named.{pick}
 use Rattle.layout.specs.Size.{entries as mapEntries}
 use Rattle.leafmap.proofs.Onward.{on, off}
-use Rattle.leafmap.proofs.Placed.{place-none}
 use Rattle.leafmap.specs.Filling.{Filling, filling, mapOf, putIn, inMap, putUnder, placed, onward, unless, placedAll, cleared, filledInto, filled}
 use Rattle.p2m.specs.Frame.{kindAt, spanCode, spanOfKind}
-use Rattle.p2m.specs.declared.Span.the-variants.{Base, Super}
 use Rattle.p2m.specs.declared.Span.{Span}
-use Rattle.p2m.specs.declared.TableSpan.the-variants.{Leaves, Unsupported}
+use Rattle.p2m.specs.declared.Span.the-variants.{Base, Super}
 use Rattle.p2m.specs.declared.TableSpan.{TableSpan}
+use Rattle.p2m.specs.declared.TableSpan.the-variants.{Leaves, Unsupported}
 use Rattle.perm.specs.Perm.{permCode}
 use Rattle.perm.specs.declared.Perm.the-variants.{Ro, Rw, Rx}
 use Rattle.refusal.proofs.None.{none, both, test, accept, refused≢accepted, from-nowhere}
-use Rattle.refusal.specs.Table.{Outcome, accepted, refused, first, eachFrom}
+use Rattle.refusal.specs.Table.{Outcome, accepted, refused, first}
 use Rattle.rows.specs.Rows.{row2, row3, lengthRows, readRows}
 use Rattle.leaves.specs.Entries.{FilledExact}
 use Rattle.leaves.proofs.Entries.{putBy, placed-maps, entries}
@@ -106,12 +104,13 @@ passes :
 unfolding exactRows readRows flatMap row2
 passes frames dom s edges xs short same =
     accept _
-    (rw
-      (le-ltb _ _ short,
+    (rw (
+      le-ltb _ _ short,
       from-nowhere (row3 (spanCode s)) xs 0
-      (λ i h. no-row3 (spanCode s) i (getD xs i 0) (rw (same i) (small frames dom s i 0 edges zero-le))),
+          (λ i h. no-row3 (spanCode s) i (getD xs i 0) (rw (same i) (small frames dom s i 0 edges zero-le))),
       from-nowhere (row25 dom (expected frames dom s edges)) xs 0
-      (λ i h. no-row25 dom (expected frames dom s edges) i (getD xs i 0) (same i))))
+          (λ i h. no-row25 dom (expected frames dom s edges) i (getD xs i 0) (same i)),
+    ))
 
 -- lent maps: row 2 let them by
 
@@ -128,8 +127,8 @@ module _ (frames : List (List ℕ)) (dom : ℕ) (edges : List Edge) (base sup : 
       go (refused r) e =
           absurd
           (refused≢accepted r
-            (sym (ap (λ (g : Filling). g .outcome) (off (λ g. filledInto frames dom edges (length base) (length sup)) f r e) ∙ e)
-            ∙ a))
+          (sym (ap (λ (g : Filling). g .outcome) (off (λ g. filledInto frames dom edges (length base) (length sup)) f r e) ∙ e)
+          ∙ a))
 
   into :
       filled frames dom edges base sup .outcome ≡ accepted →
@@ -153,10 +152,10 @@ filled-exact frames dom edges base sup a s =
     let same = into frames dom edges base sup a in
     let a′ = sym (ap (λ (f : Filling). f .outcome) same) ∙ a in
     let long =
-        ap (λ f. length (mapOf s f)) same
-        ∙ ap length (placed-maps frames dom edges n m s a′)
-        ∙ kept frames dom s edges (cleared n m)
-        ∙ cleared-length frames dom edges base sup s in
+    ap (λ f. length (mapOf s f)) same
+    ∙ ap length (placed-maps frames dom edges n m s a′)
+    ∙ kept frames dom s edges (cleared n m)
+    ∙ cleared-length frames dom edges base sup s in
     passes frames dom s edges (mapOf s (filled frames dom edges base sup))
     (rw long (short frames dom edges base sup s (fit frames dom edges base sup a)))
     (λ p. ap (λ f. getD (mapOf s f) p 0) same ∙ entries frames dom edges n m a′ s p)

@@ -1,3 +1,4 @@
+pub mod Authorized
 pub mod Entries
 pub mod Exact
 pub mod Examples

@@ -11,10 +11,10 @@ use Rattle.fields.specs.Named.{pick}
 use Rattle.leafmap.proofs.Placed.{place-none, place-next, place-stop}
 use Rattle.leafmap.specs.Filling.{Filling, mapOf, putIn, inMap, putUnder, placed, placedAll, cleared}
 use Rattle.p2m.specs.Frame.{kindAt, spanOfKind}
-use Rattle.p2m.specs.declared.Span.the-variants.{Base, Super}
 use Rattle.p2m.specs.declared.Span.{Span}
-use Rattle.p2m.specs.declared.TableSpan.the-variants.{Leaves, Unsupported}
+use Rattle.p2m.specs.declared.Span.the-variants.{Base, Super}
 use Rattle.p2m.specs.declared.TableSpan.{TableSpan}
+use Rattle.p2m.specs.declared.TableSpan.the-variants.{Leaves, Unsupported}
 use Rattle.refusal.proofs.None.{refused≢accepted}
 use Rattle.refusal.specs.Table.{Row, Outcome, accepted, refused}
 use Rattle.leaves.specs.Entries.{Stopped, StopsAtEdge}
@@ -108,8 +108,8 @@ module _ (frames : List (List ℕ)) (dom : ℕ) where
           (o : Outcome) →
           placed frames dom f e .outcome ≡ o →
           (placed frames dom f e .outcome ≡ accepted →
-            placedAll frames dom es (placed frames dom f e) .outcome ≡ refused r →
-            Stopped frames dom es (placed frames dom f e) r) →
+          placedAll frames dom es (placed frames dom f e) .outcome ≡ refused r →
+          Stopped frames dom es (placed frames dom f e) r) →
           Stopped frames dom (e ∷ es) f r
       go accepted t rest =
           later e es f r a (rest t (sym (ap (λ (g : Filling). g .outcome) (place-next frames dom e es f a)) ∙ h))

@@ -1,8 +1,8 @@
 -- What edges grant: the entries of the filling, by the last edge into each frame; and where a refused filling stops.
-use Prim.Native.Nat.{ℕ, _≤_}
-use mathlib.Core.List.{List, [], _∷_, _++_}
+use Prim.Native.Nat.{ℕ}
+use mathlib.Core.List.{List, _∷_, _++_}
 use mathlib.Core.Path.{_≡_}
-use lib.ListN.{length, getD}
+use lib.ListN.{getD}
 use Rattle.edge.specs.declared.Edge.{Edge}
 use Rattle.exact.specs.Exact.{expected, exactRows}
 use Rattle.leafmap.specs.Filling.{Filling, filling, mapOf, placed, placedAll, cleared, filledInto, filled}

@@ -8,8 +8,8 @@ use Rattle.edge.specs.Edge.{edgeOf}
 use Rattle.edge.specs.Grant.{grantOf}
 use Rattle.exact.specs.Exact.{exactRows}
 use Rattle.leafmap.specs.Filling.{Filling, filling, filled}
-use Rattle.p2m.specs.declared.Span.the-variants.{Base, Super}
 use Rattle.p2m.specs.declared.Span.{Span}
+use Rattle.p2m.specs.declared.Span.the-variants.{Base, Super}
 use Rattle.refusal.specs.Table.{row, Outcome, accepted, refused, first}
 
 -- frames: 0 is nobody's, 1 domain 7's; 2, 3 and 4 are page tables of domain 3, by their kinds

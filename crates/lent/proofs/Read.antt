@@ -1,13 +1,13 @@
 -- A map that may be read has at most 512 entries, each a code.
-use Prim.Native.Nat.{ℕ, _≤_, _<_}
-use mathlib.Core.List.{List, append-nil, flatMap}
-use mathlib.Core.Path.{_≡_, refl, sym, ap, _∙_}
-use lib.ListN.{length, getD}
+use Prim.Native.Nat.{ℕ, _≤_}
+use mathlib.Core.List.{List, flatMap}
+use mathlib.Core.Path.{_≡_}
+use lib.ListN.{length}
 use borrow.Author.Tests.{ltb-false}
 use Rattle.layout.specs.Size.{entries}
-use Rattle.refusal.proofs.None.{none, both, test, from-none}
-use Rattle.refusal.specs.Table.{accepted, first, eachFrom}
-use Rattle.rows.specs.Rows.{row2, row3, readRows}
+use Rattle.refusal.proofs.None.{none, both, test}
+use Rattle.refusal.specs.Table.{accepted, first}
+use Rattle.rows.specs.Rows.{row2, readRows}
 
 pub read-length : (code : ℕ) (xs : List ℕ) → first (readRows code xs) ≡ accepted → length xs ≤ entries
 unfolding readRows flatMap row2

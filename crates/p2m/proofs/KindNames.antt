@@ -5,8 +5,8 @@ use mathlib.Core.Path.{_≡_, refl}
 use native.Mathlib.Omega.{arith}
 use Rattle.fields.proofs.Named.{has-code}
 use Rattle.p2m.specs.Frame.{KindsName, kindOf, levelOfKind}
-use Rattle.p2m.specs.declared.PtLevel.the-variants.{L1, L2, L3, L4}
 use Rattle.p2m.specs.declared.PtLevel.{PtLevel}
+use Rattle.p2m.specs.declared.PtLevel.the-variants.{L1, L2, L3, L4}
 use Rattle.p2m.specs.declared.TableLevel.the-variants.{Level, Nothing}
 
 back : (l : PtLevel) → levelOfKind (kindOf l) ≡ Level l

@@ -5,20 +5,20 @@ use mathlib.Core.Path.{_≡_}
 use lib.Dec.{leb}
 use lib.ListN.{getD}
 use Rattle.fields.specs.Named.{pick, named}
-use Rattle.p2m.specs.declared.ChildType.the-variants.{Child, Nothing as NoChild}
 use Rattle.p2m.specs.declared.ChildType.{ChildType}
-use Rattle.p2m.specs.declared.Owner.the-variants.{Domain, Nobody}
+use Rattle.p2m.specs.declared.ChildType.the-variants.{Child, Nothing as NoChild}
 use Rattle.p2m.specs.declared.Owner.{Owner}
-use Rattle.p2m.specs.declared.PageType.the-variants.{Writable, PageTable}
+use Rattle.p2m.specs.declared.Owner.the-variants.{Domain, Nobody}
 use Rattle.p2m.specs.declared.PageType.{PageType}
-use Rattle.p2m.specs.declared.PtLevel.the-variants.{L1, L2, L3, L4}
+use Rattle.p2m.specs.declared.PageType.the-variants.{Writable, PageTable}
 use Rattle.p2m.specs.declared.PtLevel.{PtLevel}
-use Rattle.p2m.specs.declared.Span.the-variants.{Base, Super}
+use Rattle.p2m.specs.declared.PtLevel.the-variants.{L1, L2, L3, L4}
 use Rattle.p2m.specs.declared.Span.{Span}
-use Rattle.p2m.specs.declared.TableLevel.the-variants.{Level, Nothing as NoLevel}
+use Rattle.p2m.specs.declared.Span.the-variants.{Base, Super}
 use Rattle.p2m.specs.declared.TableLevel.{TableLevel}
-use Rattle.p2m.specs.declared.TableSpan.the-variants.{Leaves, Unsupported}
+use Rattle.p2m.specs.declared.TableLevel.the-variants.{Level, Nothing as NoLevel}
 use Rattle.p2m.specs.declared.TableSpan.{TableSpan}
+use Rattle.p2m.specs.declared.TableSpan.the-variants.{Leaves, Unsupported}
 
 -- kinds 2 to 5 are page tables L1 to L4
 abbrev pub kindOf : PtLevel → ℕ

@@ -8,8 +8,8 @@ use Rattle.edge.specs.Grant.{grantOf}
 use Rattle.exact.specs.Exact.{exactRows}
 use Rattle.fields.specs.Named.{pick}
 use Rattle.leafmap.specs.Filling.{Filling, filled}
-use Rattle.p2m.specs.declared.Span.the-variants.{Base, Super}
 use Rattle.p2m.specs.declared.Span.{Span}
+use Rattle.p2m.specs.declared.Span.the-variants.{Base, Super}
 use Rattle.refusal.specs.Outcome.{outcomeWords}
 use Rattle.refusal.specs.Table.{first}
 

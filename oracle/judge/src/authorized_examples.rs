@@ -36,7 +36,7 @@ const EXAMPLES: &[Example<Granted>] = &[
     }),
     (&[23, 3, 2, 5, 2], |x| x.map[2] = 2),
     (&[24, 3, 2, 5], |x| granted(x, 2, &[grant(3, 2, 0)])),
-    (&[0], |x| granted(x, 2, &[grant(3, 2, 2)])),
+    (&[0], |x| granted(x, 2, &[grant(3, 2, 1 << 31)])),
     (&[0], |x| granted(x, 1, &[grant(3, 2, 1)])),
     (&[0], |x| granted(x, 3, &[grant(3, 2, 0)])),
     // Any grant that covers the access will do.

@@ -25,7 +25,7 @@ const EXAMPLES: &[Example<Linked>] = &[
     (&[25, 3, 1, 2, 0], |x| x.map[1] = 2),
     (&[25, 3, 1, 1, 3], |x| {
         x.map[1] = 1;
-        x.edges = vec![altered(leaf(0, 1), |edge| edge.execute = 2)];
+        x.edges = vec![altered(leaf(0, 1), |edge| edge.execute = 1 << 31)];
     }),
     // The last edge counts, and of its flags writable.
     (&[25, 3, 1, 2, 1], |x| {
@@ -91,7 +91,7 @@ fn without_edges(dom: DomId, map: Vec<u8>, span: Span) -> Linked {
         Span::Base => 0,
         Span::Super => {
             frames.swap(0, 1);
-            2
+            1 << 31
         }
     };
     Linked {

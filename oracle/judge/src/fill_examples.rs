@@ -80,7 +80,7 @@ const EXAMPLES: &[Example<Filling>] = &[
     }),
     // All that is not zero is yes.
     (&[16, 512, 512], |x| {
-        x.edges = vec![altered(leaf(0, 512), |edge| edge.leaf = u32::MAX)];
+        x.edges = vec![altered(leaf(0, 512), |edge| edge.leaf = 1 << 31)];
     }),
     (&[0], |x| {
         let flagged = |child, writable, execute| Edge {

@@ -143,7 +143,7 @@ pub fn flag(random: &mut Random) -> u32 {
 }
 
 pub fn yes(random: &mut Random) -> u32 {
-    random.pick(&[1, 2, u32::MAX.into()]) as u32
+    random.pick(&[1, 1, 2, 1 << 8, 1 << 16, 1 << 31, u32::MAX.into()]) as u32
 }
 
 /// A number of any width.

@@ -12,9 +12,6 @@ use Rattle.refusal.specs.Table.{first, eachFrom}
 use Rattle.authority.specs.Authority.{reachRows}
 use Rattle.authority.proofs.all_reached.Statement.{statement}
 use Rattle.authority.proofs.all_reached.Tie as tie
-use Rattle.authority.proofs.all_reached.Reads as reads
-use Rattle.authority.proofs.all_reached.Lts as lts
-use Rattle.authority.proofs.reached.Reads as reached-reads
 
 abbrev Inv-loop : tie.InvT-loop
 Inv-loop dom leaves frames grants m₀ m-end m =

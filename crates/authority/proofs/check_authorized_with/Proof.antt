@@ -1,11 +1,11 @@
 -- `check_authorized_with` meets its contract: the map's rows come first.
 use mathlib.Core.List.{flatMap}
 use mathlib.Core.Path.{_∙_, refl, sym, ap}
+use borrow.Author.Needs.{needs}
 use Rattle.lent.proofs.Read.{read-length}
 use Rattle.refusal.proofs.First.{next, stop, last}
 use Rattle.refusal.specs.Outcome.{outcomeOf}
 use Rattle.authority.specs.Authority.{authorityRows}
-use borrow.Author.Needs.{needs}
 use Rattle.authority.proofs.check_authorized_with.Statement.{statement}
 use Rattle.authority.proofs.check_authorized_with.Tie as tie
 

@@ -4,24 +4,18 @@ use mathlib.Core.Bool.{Bool, true, false}
 use mathlib.Core.List.{map}
 use mathlib.Core.Path.{_≡_, _∙_, sym, ap}
 use lib.Dec.{eqb}
+use borrow.Author.Needs.{needs}
 use borrow.Author.Tests.{eq-eqb, ne-eqb}
 use denote.Ref.{now}
 use Rattle.edge.specs.Grant.{grantOf}
 use Rattle.fields.specs.Numbers.{nonzero}
-use Rattle.p2m.specs.declared.Owner.the-variants.{Domain}
 use Rattle.p2m.specs.declared.Owner.{Owner}
+use Rattle.p2m.specs.declared.Owner.the-variants.{Domain}
 use Rattle.refusal.specs.Table.{Outcome, first}
 use Rattle.authority.specs.Authority.{granted, writes, ownerRows, reachRows}
 use Rattle.authority.proofs.Owned.{unmapped, nobody, own, lent, denied, escalated}
-use borrow.Author.Needs.{needs}
 use Rattle.authority.proofs.reached.Statement.{statement}
 use Rattle.authority.proofs.reached.Tie as tie
-use Rattle.authority.proofs.reached.Reads as reads
-use Rattle.authority.proofs.reached.Lts as lts
-use Rattle.authority.proofs.granted.Reads as granted-reads
-use Rattle.authority.proofs.unauthorized.Reads as unauthorized-reads
-use Rattle.p2m.proofs.owner_of.Reads as owner-of-reads
-use Rattle.perm.proofs.Perm.code.Reads as code-reads
 
 -- the answer where the frame has this owner
 abbrev rows : tie.Start → Owner → Outcome
@@ -118,10 +112,10 @@ returns-5 c =
     sym
     (owned o
     ∙ escalated _ _ _ _ _
-      (foreign else2)
-      (mapped (o .before .before .before))
-      (asked w ∙ v .before .if3 .left)
-      (sym (v .granted2 .ensures) ∙ c .if4 .taken))
+    (foreign else2)
+    (mapped (o .before .before .before))
+    (asked w ∙ v .before .if3 .left)
+    (sym (v .granted2 .ensures) ∙ c .if4 .taken))
 
 cast-unauthorized : tie.Need-cast-unauthorized
 cast-unauthorized c = search needs
@@ -137,11 +131,11 @@ returns-6 c =
     let o = else2 .before .before in
     c .unauthorized2 .ensures
     ∙ sym
-      (owned o
-      ∙ denied _ _ _ _ _
-        (foreign else2)
-        (mapped (o .before .before .before))
-        (sym (v .granted2 .ensures) ∙ d .if4 .left))
+    (owned o
+    ∙ denied _ _ _ _ _
+    (foreign else2)
+    (mapped (o .before .before .before))
+    (sym (v .granted2 .ensures) ∙ d .if4 .left))
 
 pub reached-spec : {M : Type 1} → statement M
 reached-spec =

@@ -1,7 +1,7 @@
 -- `owns` meets its contract: nobody owns nothing.
 use mathlib.Core.Path.{_∙_, sym, ap}
-use Rattle.edge.specs.Edge.{owns, ownedBy}
 use borrow.Author.Needs.{needs}
+use Rattle.edge.specs.Edge.{owns, ownedBy}
 use Rattle.edge.proofs.owns.Statement.{statement}
 use Rattle.edge.proofs.owns.Tie as tie
 

@@ -3,6 +3,7 @@ use mathlib.Core.List.{flatMap}
 use mathlib.Core.Path.{_≡_, _∙_, refl, sym, ap}
 use native.Mathlib.Nat.{le-trans}
 use native.Mathlib.Omega.{arith}
+use borrow.Author.Needs.{needs}
 use denote.Ref.{now}
 use Rattle.lent.proofs.Read.{read-length}
 use Rattle.p2m.specs.Frame.{spanCode}
@@ -12,15 +13,8 @@ use Rattle.refusal.specs.Table.{first}
 use Rattle.rows.specs.Rows.{readRows}
 use Rattle.exact.specs.Exact.{exactRows}
 use Rattle.exact.proofs.Same.{same-rows}
-use borrow.Author.Needs.{needs}
 use Rattle.exact.proofs.check_exact.Statement.{statement}
 use Rattle.exact.proofs.check_exact.Tie as tie
-use Rattle.exact.proofs.check_exact.Reads as reads
-use Rattle.exact.proofs.check_exact.Lts as lts
-use Rattle.exact.proofs.expected_entries.Reads as expected-entries-reads
-use Rattle.exact.proofs.same_entries.Reads as same-entries-reads
-use Rattle.lent.proofs.read_map.Reads as read-map-reads
-use Rattle.p2m.proofs.Span.code.Reads as code-reads
 
 -- the map's code is the span's
 read :

@@ -12,29 +12,26 @@ use Rattle.exact.specs.Exact.{afterEdge, afterEdges, expected}
 use Rattle.exact.proofs.After.{after-at, after-end}
 use Rattle.exact.proofs.expected_entries.Statement.{statement}
 use Rattle.exact.proofs.expected_entries.Tie as tie
-use Rattle.exact.proofs.expected_entries.Reads as reads
-use Rattle.exact.proofs.expected_entries.Lts as lts
-use Rattle.edge.proofs.Edge.of.Reads as of-reads
-use Rattle.exact.proofs.note.Reads as note-reads
 
 abbrev Inv-loop : tie.InvT-loop
 Inv-loop dom span edges frames wanted₀ i₀ i-end wanted i =
     (length wanted ≡ entries)
     × ((m : ℕ) →
-      m < entries →
-      expected frames dom span (map edgeOf edges) m
-      ≡ afterEdges frames dom span m (getD wanted m 0) (map edgeOf (drop i edges)))
+    m < entries →
+    expected frames dom span (map edgeOf edges) m
+    ≡ afterEdges frames dom span m (getD wanted m 0) (map edgeOf (drop i edges)))
 
 abbrev μ-loop : tie.MeasureT-loop
 μ-loop dom span edges frames wanted₀ i₀ i-end wanted i = i-end - i
 
 loop-holds : tie.Need-loop-holds Inv-loop μ-loop
 loop-holds c =
-    let a = c .args in
-    (refl,
-    λ m inside.
-      ap (λ k. afterEdges (now (a .frames)) (a .dom) (a .span) m k (map edgeOf (now (a .edges))))
-      (sym (getD-replicate entries m 0 0 inside)))
+    let a = c .args in (
+      refl,
+      λ m inside.
+          ap (λ k. afterEdges (now (a .frames)) (a .dom) (a .span) m k (map edgeOf (now (a .edges))))
+          (sym (getD-replicate entries m 0 0 inside)),
+    )
 
 slice-aggregate-note : tie.Need-slice-aggregate-note Inv-loop μ-loop
 slice-aggregate-note c = search needs
@@ -63,15 +60,16 @@ loop-again c =
     let o = v .before in
     let in-loop = o .before .before .before in
     let h = in-loop .before in
-    let a = h .before .args in
-    (v .note .kept .0 ∙ h .loop .inv .0,
-    λ m inside.
-      let fits : m < length (h .loop .wanted) = omega (arith, inside, h .loop .inv .0) in
-      h .loop .inv .1 m inside
-      ∙ after-at _ _ _ m (now (a .edges)) (h .loop .i) _ (in-loop .loop-test .taken)
-      ∙ ap (λ k. afterEdges (now (a .frames)) (a .dom) (a .span) m k (map edgeOf (drop (h .loop .i + 1) (now (a .edges)))))
-        (ap (afterEdge (now (a .frames)) (a .dom) (a .span) m (getD (h .loop .wanted) m 0)) (sym (o .of .ensures))
-        ∙ sym (v .note .ensures m fits)))
+    let a = h .before .args in (
+      v .note .kept .0 ∙ h .loop .inv .0,
+      λ m inside.
+          let fits : m < length (h .loop .wanted) = omega (arith, inside, h .loop .inv .0) in
+          h .loop .inv .1 m inside
+          ∙ after-at _ _ _ m (now (a .edges)) (h .loop .i) _ (in-loop .loop-test .taken)
+          ∙ ap (λ k. afterEdges (now (a .frames)) (a .dom) (a .span) m k (map edgeOf (drop (h .loop .i + 1) (now (a .edges)))))
+          (ap (afterEdge (now (a .frames)) (a .dom) (a .span) m (getD (h .loop .wanted) m 0)) (sym (o .of .ensures))
+          ∙ sym (v .note .ensures m fits)),
+    )
 
 returns : tie.Need-returns Inv-loop μ-loop
 returns c =

@@ -1,18 +1,13 @@
 -- `lands` meets its contract: the edge counts, and its table has leaves of the span.
 use mathlib.Core.Bool.{true}
 use mathlib.Core.Path.{_≡_, _∙_, sym}
+use borrow.Author.Needs.{needs}
 use borrow.Author.Tests.{not-true, not-false}
 use denote.Ref.{now}
 use Rattle.edge.specs.Edge.{counts}
 use Rattle.exact.specs.Exact.{lands}
-use borrow.Author.Needs.{needs}
 use Rattle.exact.proofs.lands.Statement.{statement}
 use Rattle.exact.proofs.lands.Tie as tie
-use Rattle.exact.proofs.lands.Reads as reads
-use Rattle.exact.proofs.lands.Lts as lts
-use Rattle.edge.proofs.Edge.counts.Reads as counts-reads
-use Rattle.p2m.proofs.Span.code.Reads as code-reads
-use Rattle.p2m.proofs.span_of_table.Reads as span-of-table-reads
 
 counted : (c : tie.Else1) → let a = c .before .before .args in counts (now (a .frames)) (a .dom) (a .e) ≡ true
 counted c = let v = c .before .counts in sym (v .ensures) ∙ not-false (v .result) (c .if1 .left)

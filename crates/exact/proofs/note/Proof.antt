@@ -2,17 +2,12 @@
 use mathlib.Core.Path.{_∙_, sym, ap}
 use native.Mathlib.Omega.{arith}
 use lib.ListN.{getD, set}
+use borrow.Author.Needs.{needs}
 use denote.Ref.{now}
 use Rattle.perm.specs.Perm.{permCode}
 use Rattle.exact.proofs.After.{stored, stays, elsewhere}
-use borrow.Author.Needs.{needs}
 use Rattle.exact.proofs.note.Statement.{statement}
 use Rattle.exact.proofs.note.Tie as tie
-use Rattle.exact.proofs.note.Reads as reads
-use Rattle.exact.proofs.note.Lts as lts
-use Rattle.edge.proofs.Edge.perm.Reads as perm-reads
-use Rattle.exact.proofs.lands.Reads as lands-reads
-use Rattle.perm.proofs.Perm.code.Reads as code-reads
 
 cast-child : tie.Need-cast-child
 cast-child c = search needs
@@ -40,8 +35,8 @@ returns c =
     let entry = c .code .ensures ∙ ap permCode (p .perm .ensures) in
     let told = sym (l .lands .ensures) ∙ p .before .if2 .taken in
     λ m inside.
-      ap (λ v. getD (set (now (a .wanted)) (a .e .child) v) m 0) entry
-      ∙ stored _ _ _ m (a .e) (now (a .wanted)) told (l .before .if1 .taken)
+    ap (λ v. getD (set (now (a .wanted)) (a .e .child) v) m 0) entry
+    ∙ stored _ _ _ m (a .e) (now (a .wanted)) told (l .before .if1 .taken)
 
 returns-2 : tie.Need-returns-2
 returns-2 c = λ m inside. stays _ _ _ m _ _ (sym (c .before .lands .ensures) ∙ c .if2 .left)

@@ -12,8 +12,6 @@ use Rattle.refusal.specs.Table.{first, eachFrom}
 use Rattle.exact.specs.Exact.{row25}
 use Rattle.exact.proofs.same_entries.Statement.{statement}
 use Rattle.exact.proofs.same_entries.Tie as tie
-use Rattle.exact.proofs.same_entries.Reads as reads
-use Rattle.exact.proofs.same_entries.Lts as lts
 
 abbrev Inv-loop : tie.InvT-loop
 Inv-loop dom leaves wanted m₀ m-end m =

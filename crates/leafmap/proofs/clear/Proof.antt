@@ -9,8 +9,6 @@ use borrow.Author.Needs.{needs}
 use Rattle.leafmap.proofs.Zeros.{zeros-next}
 use Rattle.leafmap.proofs.clear.Statement.{statement}
 use Rattle.leafmap.proofs.clear.Tie as tie
-use Rattle.leafmap.proofs.clear.Reads as reads
-use Rattle.leafmap.proofs.clear.Lts as lts
 
 abbrev Inv-loop : tie.InvT-loop
 Inv-loop map₀ i₀ i-end map i = (i ≤ length map₀) × (map ≡ replicate i 0 ++ drop i map₀) × (length map ≡ length map₀)
@@ -33,10 +31,11 @@ loop-less c = search needs
 loop-again : tie.Need-loop-again Inv-loop μ-loop
 loop-again c =
     let h = c .before in
-    let xs = h .before .args .map .now in
-    (omega arith,
-    ap (λ (l : List ℕ). set l (h .loop .i) 0) (h .loop .inv .1) ∙ zeros-next xs (h .loop .i) (c .loop-test .taken),
-    length-set (h .loop .map) (h .loop .i) 0 ∙ h .loop .inv .2)
+    let xs = h .before .args .map .now in (
+      omega arith,
+      ap (λ (l : List ℕ). set l (h .loop .i) 0) (h .loop .inv .1) ∙ zeros-next xs (h .loop .i) (c .loop-test .taken),
+      length-set (h .loop .map) (h .loop .i) 0 ∙ h .loop .inv .2,
+    )
 
 same-length : tie.Need-same-length Inv-loop μ-loop
 same-length c = search needs

@@ -1,8 +1,8 @@
 -- `entry_at` meets its contract.
 use mathlib.Core.Path.{sym}
 use lib.ListN.{List·getD-eq-default}
-use denote.Ref.{now}
 use borrow.Author.Needs.{needs}
+use denote.Ref.{now}
 use Rattle.leafmap.proofs.entry_at.Statement.{statement}
 use Rattle.leafmap.proofs.entry_at.Tie as tie
 

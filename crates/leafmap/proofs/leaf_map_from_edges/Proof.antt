@@ -2,21 +2,15 @@
 use mathlib.Core.List.{map}
 use mathlib.Core.Path.{_≡_, _∙_, sym, ap, ap₂}
 use lib.ListN.{length}
+use borrow.Author.Needs.{needs}
 use denote.Ref.{now}
 use Rattle.edge.specs.Edge.{edgeOf}
 use Rattle.refusal.specs.Outcome.{outcomeOf}
 use Rattle.refusal.specs.Table.{accepted}
 use Rattle.leafmap.specs.Filling.{filling, placedAll, cleared, filledInto, filled}
 use Rattle.leafmap.proofs.Filled.{too-long, fitting, edge-refused, edges-placed}
-use borrow.Author.Needs.{needs}
 use Rattle.leafmap.proofs.leaf_map_from_edges.Statement.{statement}
 use Rattle.leafmap.proofs.leaf_map_from_edges.Tie as tie
-use Rattle.leafmap.proofs.leaf_map_from_edges.Reads as reads
-use Rattle.leafmap.proofs.leaf_map_from_edges.Lts as lts
-use Rattle.leafmap.proofs.clear.Reads as clear-reads
-use Rattle.leafmap.proofs.no_conflict.Reads as no-conflict-reads
-use Rattle.leafmap.proofs.place_edges.Reads as place-edges-reads
-use Rattle.lent.proofs.map_lens.Reads as map-lens-reads
 
 -- where the edges have been placed
 
@@ -41,7 +35,7 @@ placed :
     let a = at-start v .args in
     filling (v .place-edges .last .1 .1 .1 .0) (v .place-edges .last .1 .1 .1 .1 .0) (outcomeOf (v .place-edges .result))
     ≡ placedAll (now (a .frames)) (a .dom) (map edgeOf (now (a .edges)))
-      (cleared (length (now (a .base))) (length (now (a .sup))))
+    (cleared (length (now (a .base))) (length (now (a .sup))))
 placed v =
     let second = v .before .before .before .before .before in
     let first = second .before .before .before .before in

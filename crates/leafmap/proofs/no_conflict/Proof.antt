@@ -10,9 +10,6 @@ use Rattle.refusal.specs.Table.{first, eachFrom}
 use Rattle.leafmap.specs.Filling.{row17}
 use Rattle.leafmap.proofs.no_conflict.Statement.{statement}
 use Rattle.leafmap.proofs.no_conflict.Tie as tie
-use Rattle.leafmap.proofs.no_conflict.Reads as reads
-use Rattle.leafmap.proofs.no_conflict.Lts as lts
-use Rattle.leafmap.proofs.entry_at.Reads as entry-at-reads
 
 abbrev Inv-loop : tie.InvT-loop
 Inv-loop base sup m₀ m-end m = first (eachFrom (row17 sup) 0 base) ≡ first (eachFrom (row17 sup) m (drop m base))
@@ -53,7 +50,7 @@ loop-again c =
     let a = h .before .before .before .args in
     let here = from-at (a .base .now) (h .loop .m) 0 (turn .loop-test .taken) (row17 (a .sup .now)) in
     ⊎-elim (λ w.
-      rw (h .loop .inv, here, ne-eqb _ _ (w .0 .taken), eq-eqb _ _ (sym (w .1 .ensures) ∙ w .2 .left)))
+    rw (h .loop .inv, here, ne-eqb _ _ (w .0 .taken), eq-eqb _ _ (sym (w .1 .ensures) ∙ w .2 .left)))
     (λ w. rw (h .loop .inv, here, eq-eqb _ _ (w .left)))
     (c .if1 .came)
 

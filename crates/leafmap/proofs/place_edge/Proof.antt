@@ -1,19 +1,14 @@
 -- `place_edge` meets its contract: skipped, refused by 15, or put into the map of its parent's span.
-use mathlib.Core.Path.{_≡_, _∙_, sym, ap}
 use mathlib.Core.Bool.{true}
+use mathlib.Core.Path.{_≡_, _∙_, sym, ap}
+use borrow.Author.Needs.{needs}
 use borrow.Author.Tests.{not-true, not-false}
 use denote.Ref.{now}
 use Rattle.edge.specs.Edge.{counts}
 use Rattle.p2m.specs.declared.TableSpan.the-variants.{Leaves}
 use Rattle.leafmap.specs.Filling.{placed}
-use borrow.Author.Needs.{needs}
 use Rattle.leafmap.proofs.place_edge.Statement.{statement}
 use Rattle.leafmap.proofs.place_edge.Tie as tie
-use Rattle.leafmap.proofs.place_edge.Reads as reads
-use Rattle.leafmap.proofs.place_edge.Lts as lts
-use Rattle.edge.proofs.Edge.counts.Reads as counts-reads
-use Rattle.leafmap.proofs.put.Reads as put-reads
-use Rattle.p2m.proofs.span_of_table.Reads as span-of-table-reads
 
 counted :
     (c : tie.Else1) →

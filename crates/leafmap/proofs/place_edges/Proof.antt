@@ -12,15 +12,11 @@ use Rattle.leafmap.specs.Filling.{Filling, filling, placed, placedAll}
 use Rattle.leafmap.proofs.Placed.{place-at, place-end, place-stop}
 use Rattle.leafmap.proofs.place_edges.Statement.{statement}
 use Rattle.leafmap.proofs.place_edges.Tie as tie
-use Rattle.leafmap.proofs.place_edges.Reads as reads
-use Rattle.leafmap.proofs.place_edges.Lts as lts
-use Rattle.edge.proofs.Edge.of.Reads as of-reads
-use Rattle.leafmap.proofs.place_edge.Reads as place-edge-reads
 
 abbrev Inv-loop : tie.InvT-loop
 Inv-loop edges frames dom base₀ sup₀ i₀ i-end base sup i =
     (placedAll frames dom (map edgeOf edges) (filling base₀ sup₀ accepted)
-      ≡ placedAll frames dom (map edgeOf (drop i edges)) (filling base sup accepted))
+    ≡ placedAll frames dom (map edgeOf (drop i edges)) (filling base sup accepted))
     × (length base ≡ length base₀)
     × (length sup ≡ length sup₀)
 

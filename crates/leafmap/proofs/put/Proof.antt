@@ -1,13 +1,9 @@
 -- `put` meets its contract: past the map row 16, else the entry.
+use borrow.Author.Needs.{needs}
 use borrow.Author.Tests.{lt-ltb, le-ltb}
 use Rattle.leafmap.specs.Filling.{putIn}
-use borrow.Author.Needs.{needs}
 use Rattle.leafmap.proofs.put.Statement.{statement}
 use Rattle.leafmap.proofs.put.Tie as tie
-use Rattle.leafmap.proofs.put.Reads as reads
-use Rattle.leafmap.proofs.put.Lts as lts
-use Rattle.edge.proofs.Edge.perm.Reads as perm-reads
-use Rattle.perm.proofs.Perm.code.Reads as code-reads
 
 cast-child : tie.Need-cast-child
 cast-child c = search needs

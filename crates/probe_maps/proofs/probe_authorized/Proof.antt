@@ -1,7 +1,7 @@
 -- `probe_authorized` meets its contract: each callee equals its definition.
 use mathlib.Core.Path.{_∙_, ap}
-use Rattle.refusal.specs.Outcome.{outcomeWords}
 use borrow.Author.Needs.{needs}
+use Rattle.refusal.specs.Outcome.{outcomeWords}
 use Rattle.probe_maps.proofs.probe_authorized.Statement.{statement}
 use Rattle.probe_maps.proofs.probe_authorized.Tie as tie
 

@@ -2,13 +2,13 @@
 use Prim.Native.Nat.{ℕ}
 use mathlib.Core.List.{List, map}
 use mathlib.Core.Path.{_∙_, ap}
+use borrow.Author.Needs.{needs}
 use denote.Ref.{now}
 use Rattle.edge.specs.Edge.{edgeOf}
 use Rattle.exact.specs.Exact.{exactRows}
 use Rattle.p2m.specs.declared.Span.{Span}
 use Rattle.refusal.specs.Outcome.{outcomeWords}
 use Rattle.refusal.specs.Table.{first}
-use borrow.Author.Needs.{needs}
 use Rattle.probe_maps.proofs.probe_exact.Statement.{statement}
 use Rattle.probe_maps.proofs.probe_exact.Tie as tie
 

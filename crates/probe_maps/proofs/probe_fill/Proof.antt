@@ -1,8 +1,8 @@
 -- `probe_fill` meets its contract: each callee equals its definition.
 use mathlib.Core.List.{[], _∷_}
 use mathlib.Core.Path.{_∙_, ap}
-use Rattle.probe_maps.specs.Answers.{fillingWords}
 use borrow.Author.Needs.{needs}
+use Rattle.probe_maps.specs.Answers.{fillingWords}
 use Rattle.probe_maps.proofs.probe_fill.Statement.{statement}
 use Rattle.probe_maps.proofs.probe_fill.Tie as tie
 

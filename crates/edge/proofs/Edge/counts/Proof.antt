@@ -1,6 +1,6 @@
 -- `Edge::counts` meets its contract.
-use Rattle.edge.specs.Edge.{counts}
 use borrow.Author.Needs.{needs}
+use Rattle.edge.specs.Edge.{counts}
 use Rattle.edge.proofs.Edge.counts.Statement.{statement}
 use Rattle.edge.proofs.Edge.counts.Tie as tie
 
