@@ -11,9 +11,9 @@ use Rattle.edge.specs.declared.Edge.{Edge}
 use Rattle.exact.proofs.After.{stored, stays}
 use Rattle.exact.specs.Exact.{isSpan, lands, afterEdge, afterEdges}
 use Rattle.fields.specs.Named.{pick}
-use Rattle.leafmap.proofs.Onward.{on, off}
-use Rattle.leafmap.proofs.Placed.{place-none, place-next, place-stop}
-use Rattle.leafmap.specs.Filling.{Filling, Put, put, mapOf, putIn, inMap, putUnder, placed, placedAll, conflicts, cleared, filledInto}
+use Rattle.filling.proofs.Onward.{on, off}
+use Rattle.filling.proofs.Placed.{place-none, place-next, place-stop}
+use Rattle.filling.specs.Filling.{Filling, Put, put, mapOf, putIn, inMap, putUnder, placed, placedAll, conflicts, cleared, filledInto}
 use Rattle.p2m.specs.Frame.{kindAt, spanOfKind}
 use Rattle.p2m.specs.declared.Span.{Span}
 use Rattle.p2m.specs.declared.Span.the-variants.{Base, Super}

@@ -10,9 +10,9 @@ use Rattle.edge.specs.Edge.{entryOf, counts}
 use Rattle.edge.specs.declared.Edge.{Edge}
 use Rattle.exact.specs.Exact.{lands, afterEdge, afterEdges, expected, row25, exactRows}
 use Rattle.fields.specs.Named.{pick}
+use Rattle.filling.proofs.Onward.{on, off}
+use Rattle.filling.specs.Filling.{Filling, filling, mapOf, putIn, inMap, putUnder, placed, onward, unless, placedAll, cleared, filledInto, filled}
 use Rattle.layout.specs.Size.{entries as mapEntries}
-use Rattle.leafmap.proofs.Onward.{on, off}
-use Rattle.leafmap.specs.Filling.{Filling, filling, mapOf, putIn, inMap, putUnder, placed, onward, unless, placedAll, cleared, filledInto, filled}
 use Rattle.p2m.specs.Frame.{kindAt, spanCode, spanOfKind}
 use Rattle.p2m.specs.declared.Span.{Span}
 use Rattle.p2m.specs.declared.Span.the-variants.{Base, Super}

@@ -5,7 +5,7 @@ use Rattle.authority.specs.Authority.{granted, ownerRows, reachRows, authorityR
 use Rattle.edge.specs.Edge.{owns, counts}
 use Rattle.edge.specs.Grant.{covers}
 use Rattle.exact.specs.Exact.{lands, afterEdge, afterEdges, row25, exactRows}
-use Rattle.leafmap.specs.Filling.{putIn, placed, onward, placedAll, row17, conflicts, filledInto, filled}
+use Rattle.filling.specs.Filling.{putIn, placed, onward, placedAll, row17, conflicts, filledInto, filled}
 use Rattle.refusal.specs.Table.{first, eachFrom}
 use Rattle.rows.specs.Rows.{row2, row3, lengthRows, readRows}
 use Rattle.leaves.specs.Examples.{Examples}

@@ -8,8 +8,8 @@ use lib.ListN.{length}
 use Rattle.edge.specs.Edge.{counts}
 use Rattle.edge.specs.declared.Edge.{Edge}
 use Rattle.fields.specs.Named.{pick}
-use Rattle.leafmap.proofs.Placed.{place-none, place-next, place-stop}
-use Rattle.leafmap.specs.Filling.{Filling, mapOf, putIn, inMap, putUnder, placed, placedAll, cleared}
+use Rattle.filling.proofs.Placed.{place-none, place-next, place-stop}
+use Rattle.filling.specs.Filling.{Filling, mapOf, putIn, inMap, putUnder, placed, placedAll, cleared}
 use Rattle.p2m.specs.Frame.{kindAt, spanOfKind}
 use Rattle.p2m.specs.declared.Span.{Span}
 use Rattle.p2m.specs.declared.Span.the-variants.{Base, Super}

@@ -5,7 +5,7 @@ use mathlib.Core.Path.{_≡_}
 use lib.ListN.{getD}
 use Rattle.edge.specs.declared.Edge.{Edge}
 use Rattle.exact.specs.Exact.{expected, exactRows}
-use Rattle.leafmap.specs.Filling.{Filling, filling, mapOf, placed, placedAll, cleared, filledInto, filled}
+use Rattle.filling.specs.Filling.{Filling, filling, mapOf, placed, placedAll, cleared, filledInto, filled}
 use Rattle.p2m.specs.declared.Span.{Span}
 use Rattle.refusal.specs.Table.{Row, accepted, refused, first}
 

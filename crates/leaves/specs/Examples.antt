@@ -7,7 +7,7 @@ use Rattle.authority.specs.Authority.{authorityRows}
 use Rattle.edge.specs.Edge.{edgeOf}
 use Rattle.edge.specs.Grant.{grantOf}
 use Rattle.exact.specs.Exact.{exactRows}
-use Rattle.leafmap.specs.Filling.{Filling, filling, filled}
+use Rattle.filling.specs.Filling.{Filling, filling, filled}
 use Rattle.p2m.specs.declared.Span.{Span}
 use Rattle.p2m.specs.declared.Span.the-variants.{Base, Super}
 use Rattle.refusal.specs.Table.{row, Outcome, accepted, refused, first}

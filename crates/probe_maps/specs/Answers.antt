@@ -7,7 +7,7 @@ use Rattle.edge.specs.Edge.{edgeOf}
 use Rattle.edge.specs.Grant.{grantOf}
 use Rattle.exact.specs.Exact.{exactRows}
 use Rattle.fields.specs.Named.{pick}
-use Rattle.leafmap.specs.Filling.{Filling, filled}
+use Rattle.filling.specs.Filling.{Filling, filled}
 use Rattle.p2m.specs.declared.Span.{Span}
 use Rattle.p2m.specs.declared.Span.the-variants.{Base, Super}
 use Rattle.refusal.specs.Outcome.{outcomeWords}

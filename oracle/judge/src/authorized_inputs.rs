@@ -41,24 +41,46 @@ fn accepted(random: &mut Random) -> Granted {
         grants: Vec::new(),
     };
     for mfn in 0..x.map.len() {
-        let entry = x.map[mfn];
-        match x.frames[mfn].domain() {
-            Some(owner) if owner != dom && entry != 0 => x.grants.push(Grant {
-                grantor: owner.into(),
-                grantee: dom.into(),
-                frame: mfn as u32,
-                writable: match entry {
-                    2 => yes(random),
-                    _ => flag(random),
-                },
-            }),
-            Some(_) => (),
-            None => x.map[mfn] = 0,
-        }
+        authorize(random, &mut x, mfn);
     }
+    let more = match random.below(8) {
+        0 => random.below(300),
+        _ => random.below(4),
+    };
+    let more = (0..more).map(|_| any_grant(random, &x));
+    x.grants.extend(more.collect::<Vec<Grant>>());
     let first = place(random, x.grants.len() + 1);
     x.grants.rotate_left(first);
     x
+}
+
+/// Adds the grant that an entry needs, or clears it where no grant will do.
+fn authorize(random: &mut Random, x: &mut Granted, mfn: usize) {
+    let entry = x.map[mfn];
+    match x.frames[mfn].domain() {
+        None => x.map[mfn] = 0,
+        Some(owner) if owner != x.dom && entry != 0 => x.grants.push(Grant {
+            grantor: owner.into(),
+            grantee: x.dom.into(),
+            frame: mfn as u32,
+            writable: match entry {
+                2 => yes(random),
+                _ => flag(random),
+            },
+        }),
+        Some(_) => (),
+    }
+}
+
+/// A grant that may match in some of its numbers.
+fn any_grant(random: &mut Random, x: &Granted) -> Grant {
+    let frame = place(random, x.frames.len() + 1);
+    Grant {
+        grantor: x.frames.get(frame).map_or(0, |frame| frame.owner),
+        grantee: owner(random, x.dom),
+        frame: frame as u32 ^ (random.below(2) << random.below(32)) as u32,
+        writable: flag(random),
+    }
 }
 
 fn drop_grant(random: &mut Random, x: &mut Granted) {

@@ -6,10 +6,10 @@ use lib.ListN.{length, drop}
 use borrow.Author.Needs.{needs}
 use denote.Ref.{now}
 use Rattle.edge.specs.Edge.{edgeOf}
+use Rattle.filling.proofs.Placed.{place-at, place-end, place-stop}
+use Rattle.filling.specs.Filling.{Filling, filling, placed, placedAll}
 use Rattle.refusal.specs.Outcome.{outcomeOf, rowOf}
 use Rattle.refusal.specs.Table.{accepted}
-use Rattle.leafmap.specs.Filling.{Filling, filling, placed, placedAll}
-use Rattle.leafmap.proofs.Placed.{place-at, place-end, place-stop}
 use Rattle.leafmap.proofs.place_edges.Statement.{statement}
 use Rattle.leafmap.proofs.place_edges.Tie as tie
 

@@ -10,8 +10,8 @@ use Rattle.refusal.specs.declared.Refusal.{Refusal}
 use Rattle.refusal.specs.declared.Verdict.{Verdict}
 use Rattle.refusal.specs.declared.Verdict.the-variants.{Accepted, Refused}
 use Rattle.rows.specs.Rows.{lengthRows}
-use Rattle.leafmap.specs.Filling.{Filling, filling, placedAll, row17, conflicts, cleared, filledInto, filled}
-use Rattle.leafmap.proofs.Onward.{on, off}
+use Rattle.filling.specs.Filling.{Filling, filling, placedAll, row17, conflicts, cleared, filledInto, filled}
+use Rattle.filling.proofs.Onward.{on, off}
 
 module _ (frames : List (List ℕ)) (dom : ℕ) (edges : List Edge) where
   module _ (base sup : List ℕ) (v : Verdict) (e : outcomeOf v ≡ first (lengthRows base sup)) where

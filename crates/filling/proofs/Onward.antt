@@ -1,7 +1,7 @@
 -- A step follows what was accepted, and none what was refused.
 use mathlib.Core.Path.{_≡_}
 use Rattle.refusal.specs.Table.{Row, accepted, refused}
-use Rattle.leafmap.specs.Filling.{Filling, onward}
+use Rattle.filling.specs.Filling.{Filling, onward}
 
 pub on : (step : Filling → Filling) (f : Filling) → f .outcome ≡ accepted → onward step f ≡ step f
 unfolding onward

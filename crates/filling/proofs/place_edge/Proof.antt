@@ -6,9 +6,9 @@ use borrow.Author.Tests.{not-true, not-false}
 use denote.Ref.{now}
 use Rattle.edge.specs.Edge.{counts}
 use Rattle.p2m.specs.declared.TableSpan.the-variants.{Leaves}
-use Rattle.leafmap.specs.Filling.{placed}
-use Rattle.leafmap.proofs.place_edge.Statement.{statement}
-use Rattle.leafmap.proofs.place_edge.Tie as tie
+use Rattle.filling.specs.Filling.{placed}
+use Rattle.filling.proofs.place_edge.Statement.{statement}
+use Rattle.filling.proofs.place_edge.Tie as tie
 
 counted :
     (c : tie.Else1) →

@@ -1,9 +1,9 @@
 -- `put` meets its contract: past the map row 16, else the entry.
 use borrow.Author.Needs.{needs}
 use borrow.Author.Tests.{lt-ltb, le-ltb}
-use Rattle.leafmap.specs.Filling.{putIn}
-use Rattle.leafmap.proofs.put.Statement.{statement}
-use Rattle.leafmap.proofs.put.Tie as tie
+use Rattle.filling.specs.Filling.{putIn}
+use Rattle.filling.proofs.put.Statement.{statement}
+use Rattle.filling.proofs.put.Tie as tie
 
 cast-child : tie.Need-cast-child
 cast-child c = search needs

@@ -8,8 +8,8 @@ use lib.Seq.{drop-cons}
 use Rattle.edge.specs.Edge.{edgeOf}
 use Rattle.edge.specs.declared.Edge.{Edge}
 use Rattle.refusal.specs.Table.{Row, accepted, refused}
-use Rattle.leafmap.specs.Filling.{Filling, placed, placedAll}
-use Rattle.leafmap.proofs.Onward.{on, off}
+use Rattle.filling.specs.Filling.{Filling, placed, placedAll}
+use Rattle.filling.proofs.Onward.{on, off}
 
 module _ (frames : List (List ℕ)) (dom : ℕ) where
   pub place-none : (f : Filling) → placedAll frames dom [] f ≡ f

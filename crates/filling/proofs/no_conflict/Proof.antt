@@ -7,9 +7,9 @@ use borrow.Author.Needs.{needs}
 use borrow.Author.Tests.{eq-eqb, ne-eqb}
 use Rattle.refusal.proofs.Parts.{from-at, from-end}
 use Rattle.refusal.specs.Table.{first, eachFrom}
-use Rattle.leafmap.specs.Filling.{row17}
-use Rattle.leafmap.proofs.no_conflict.Statement.{statement}
-use Rattle.leafmap.proofs.no_conflict.Tie as tie
+use Rattle.filling.specs.Filling.{row17}
+use Rattle.filling.proofs.no_conflict.Statement.{statement}
+use Rattle.filling.proofs.no_conflict.Tie as tie
 
 abbrev Inv-loop : tie.InvT-loop
 Inv-loop base sup m₀ m-end m = first (eachFrom (row17 sup) 0 base) ≡ first (eachFrom (row17 sup) m (drop m base))

@@ -6,9 +6,9 @@ use native.Mathlib.Omega.{arith}
 use lib.ListN.{length, set, drop, replicate, length-set}
 use lib.Seq.{drop-length}
 use borrow.Author.Needs.{needs}
-use Rattle.leafmap.proofs.Zeros.{zeros-next}
-use Rattle.leafmap.proofs.clear.Statement.{statement}
-use Rattle.leafmap.proofs.clear.Tie as tie
+use Rattle.filling.proofs.Zeros.{zeros-next}
+use Rattle.filling.proofs.clear.Statement.{statement}
+use Rattle.filling.proofs.clear.Tie as tie
 
 abbrev Inv-loop : tie.InvT-loop
 Inv-loop map₀ i₀ i-end map i = (i ≤ length map₀) × (map ≡ replicate i 0 ++ drop i map₀) × (length map ≡ length map₀)

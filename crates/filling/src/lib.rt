@@ -1,0 +1,83 @@
+// The steps of filling leaf maps from edges (hv-s2's leafmap.rs): both maps are cleared, edges are placed, conflicts are looked for.
+use edge::Edge;
+use p2m::Span;
+use p2m::TableSpan;
+use refusal::Refusal;
+use refusal::Verdict;
+ghost use mathlib.Core.Path.{_≡_};
+ghost use lib.ListN.{length, getD, replicate};
+ghost use Rattle.filling.specs.Filling.{filling, put, putIn, placed, row17};
+ghost use Rattle.refusal.specs.Outcome.{outcomeOf};
+ghost use Rattle.refusal.specs.Table.{accepted, first, eachFrom};
+
+// One edge: the span is its parent's, since a frame does not know how much of the address space maps it.
+pub fn place_edge(
+    e: Edge,
+    frames: &[[u32; 2]],
+    dom: u16,
+    base: &mut [u8],
+    sup: &mut [u8],
+) -> Verdict
+    ensures { λ r. ⌜ filling (now (base .exit)) (now (sup .exit)) (outcomeOf r) ≡ placed (now (frames .entry)) dom (filling (now (base .entry)) (now (sup .entry)) accepted) e ⌝ }
+{
+    if !e.counts(frames, dom) {
+        return Verdict::Accepted;
+    }
+    match p2m::span_of_table(frames, e.parent) {
+        TableSpan::Leaves(span) => match span {
+            Span::Base => put(base, e),
+            Span::Super => put(sup, e),
+        },
+        TableSpan::Unsupported => Verdict::Refused(Refusal::UnsupportedSpan {
+            parent: e.parent as u64,
+        }),
+    }
+}
+
+// The edge's entry at its child.
+fn put(map: &mut [u8], e: Edge) -> Verdict
+    ensures { λ r. ⌜ put (now (map .exit)) (outcomeOf r) ≡ putIn (now (map .entry)) e ⌝ }
+{
+    let child = e.child as usize;
+    if map.len() <= child {
+        return Verdict::Refused(Refusal::OutOfRange {
+            mfn: child as u64,
+            capacity: map.len() as u64,
+        });
+    }
+    map[child] = e.perm().code();
+    Verdict::Accepted
+}
+
+// Every entry is unmapped, so that a lent map keeps no leaf of another domain.
+pub fn clear(map: &mut [u8])
+    ensures { λ _. ⌜ now (map .exit) ≡ replicate (length (now (map .entry))) 0 ⌝ }
+{
+    for i in 0..map.len() {
+        map[i] = 0;
+    }
+}
+
+// Row 17: a frame has one span, or it would need two places in memory.
+pub fn no_conflict(base: &[u8], sup: &[u8]) -> Verdict
+    ensures { λ r. ⌜ outcomeOf r ≡ first (eachFrom (row17 (now (sup .entry))) 0 (now (base .entry))) ⌝ }
+{
+    for m in 0..base.len() {
+        if base[m] != 0 {
+            if entry_at(sup, m) != 0 {
+                return Verdict::Refused(Refusal::SpanConflict { mfn: m as u64 });
+            }
+        }
+    }
+    Verdict::Accepted
+}
+
+// The entry of a frame, 0 past the map.
+fn entry_at(map: &[u8], m: usize) -> u8
+    ensures { λ r. ⌜ r ≡ getD (now (map .entry)) m 0 ⌝ }
+{
+    if map.len() <= m {
+        return 0;
+    }
+    map[m]
+}
