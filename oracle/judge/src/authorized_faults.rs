@@ -1,4 +1,5 @@
-//! Slips of a port that checks maps against grants: in rows 2 and 3, and in what is refused and how.
+//! Slips of a port that checks maps against grants: in rows 2 and 3, in owners, and in what is
+//! refused.
 
 use crate::authorized::Granted;
 use crate::function::{with, Fault};

@@ -1,5 +1,5 @@
-//! Slips of a port that checks maps against edges: in rows 2 and 3, in which edges count, and in what
-//! is refused.
+//! Slips of a port that checks maps against edges: in rows 2 and 3, in which edges count, and in
+//! what is refused.
 
 use crate::exact::Linked;
 use crate::function::{with, Fault};
@@ -87,13 +87,9 @@ pub const FAULTS: &[Fault<Linked>] = &[
         |x, answer| {
             *answer = with(x, |x| {
                 let kind = x.kind();
-                for frame in x
-                    .frames
-                    .iter_mut()
-                    .filter(|frame| (L1..=L2).contains(&frame.kind))
-                {
-                    frame.kind = kind;
-                }
+                let tables = x.frames.iter_mut();
+                let either = tables.filter(|frame| [L1, L2].contains(&frame.kind));
+                either.for_each(|frame| frame.kind = kind);
             });
         },
     ),

@@ -45,7 +45,7 @@ const EXAMPLES: &[Example<Linked>] = &[
     // Edges of the other span, of no span, of others and interior ones neither map a frame nor
     // take it back.
     (&[0], |x| {
-        let others = [1, 2, 3, 4, 5, u32::MAX].map(|parent| leaf(parent, 1));
+        let others = [1, 2, 3, 4, 5, 65_536, u32::MAX].map(|parent| leaf(parent, 1));
         let interior = altered(leaf(0, 1), |edge| edge.leaf = 0);
         x.edges = [&others[..], &[interior]].concat();
     }),
@@ -104,7 +104,7 @@ fn without_edges(dom: DomId, map: Vec<u8>, span: Span) -> Linked {
 }
 
 pub fn linked(span: Span, scale: usize) -> impl Iterator<Item = Linked> {
-    random(Random(22), 30_000 * scale, move |random| {
+    random(Random(22), 60_000 * scale, move |random| {
         beside(random, span)
     })
 }

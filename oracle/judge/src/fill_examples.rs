@@ -59,7 +59,9 @@ const EXAMPLES: &[Example<Filling>] = &[
     // A frame past the list has no owner, not even domain 0.
     (&[0], |x| {
         (x.dom, x.frames) = (0, tables(0));
-        x.edges = vec![leaf(5, 1), leaf(6, 1), leaf(u32::MAX, 1)];
+        x.edges = [5, 6, 65_536, u32::MAX]
+            .map(|parent| leaf(parent, 1))
+            .to_vec();
     }),
     (&[0], |x| {
         x.frames.clear();
@@ -88,7 +90,11 @@ const EXAMPLES: &[Example<Filling>] = &[
             execute,
             ..leaf(1, child)
         };
-        x.edges = vec![flagged(0, 2, 0), flagged(1, u32::MAX, 2), flagged(2, 0, 2)];
+        x.edges = vec![
+            flagged(0, 2, 0),
+            flagged(1, u32::MAX, 2),
+            flagged(2, 0, 1 << 31),
+        ];
     }),
 ];
 

@@ -10,7 +10,7 @@ use crate::record_inputs::{
 use crate::records::Edge;
 
 pub fn fillings(scale: usize) -> impl Iterator<Item = Filling> {
-    random(Random(18), 40_000 * scale, changed).chain(random(Random(19), 40_000 * scale, crowded))
+    random(Random(18), 80_000 * scale, changed).chain(random(Random(19), 80_000 * scale, crowded))
 }
 
 const CHANGES: [fn(&mut Random, &mut Filling); 5] = [
@@ -84,6 +84,7 @@ fn parent(random: &mut Random, count: usize) -> u32 {
     match random.below(8) {
         0 => any(random),
         1 => count as u32,
+        2 => 65_536 + random.below(count as u64 + 1) as u32,
         _ => random.below(count as u64 + 1) as u32,
     }
 }
@@ -108,7 +109,7 @@ fn add_past_map(random: &mut Random, x: &mut Filling) {
     add(random, x, kind, child);
 }
 
-/// Adds up to three frames to both maps.
+/// Adds one frame or up to three to both maps.
 fn add_conflict(random: &mut Random, x: &mut Filling) {
     let shared = x.base.len().min(x.sup.len());
     for _ in 0..=random.below(3).min(shared as u64) {

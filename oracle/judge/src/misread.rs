@@ -28,6 +28,11 @@ pub const FILL: &[Fault<Filling>] = &[
         |x, reply| *reply = with(x, |x| child_from_slot(&mut x.edges)),
     ),
     fill_faults::fault(
+        "fill-parent-of-16-bits",
+        "the high half of the parent is lost",
+        |x, reply| *reply = with(x, |x| parents_of_16_bits(&mut x.edges)),
+    ),
+    fill_faults::fault(
         "fill-child-of-16-bits",
         "the high half of the child is lost",
         |x, reply| *reply = with(x, |x| children_of_16_bits(&mut x.edges)),
@@ -86,6 +91,11 @@ pub const EXACT: &[Fault<Linked>] = &[
         |x, reply| *reply = with(x, |x| child_from_slot(&mut x.edges)),
     ),
     exact_faults::fault(
+        "exact-parent-of-16-bits",
+        "the high half of the parent is lost",
+        |x, reply| *reply = with(x, |x| parents_of_16_bits(&mut x.edges)),
+    ),
+    exact_faults::fault(
         "exact-child-of-16-bits",
         "the high half of the child is lost",
         |x, reply| *reply = with(x, |x| children_of_16_bits(&mut x.edges)),
@@ -139,6 +149,10 @@ fn all_leaves(edges: &mut [Edge]) {
 
 fn child_from_slot(edges: &mut [Edge]) {
     edges.iter_mut().for_each(|edge| edge.child = edge.slot);
+}
+
+fn parents_of_16_bits(edges: &mut [Edge]) {
+    edges.iter_mut().for_each(|edge| edge.parent %= 1 << 16);
 }
 
 fn children_of_16_bits(edges: &mut [Edge]) {
