@@ -43,6 +43,6 @@ unfolding granted covers
 reading [] owner dom m e = e
 reading (g ∷ gs) owner dom m e =
     either _ _ _ _
-    (weaker (eqb (g .grantor) owner) (eqb (g .grantee) dom) (eqb (g .frame) m) (g .writable))
+    (weaker (eqb (g .frame) m) (eqb (g .grantee) dom) (eqb (g .grantor) owner) (g .writable))
     (reading gs owner dom m)
     e

@@ -15,4 +15,4 @@ grantOf x =
 -- it lets the domain reach the owner's frame; a grant for writing covers reading
 unfoldable pub covers : ℕ → ℕ → ℕ → Bool → Grant → Bool
 covers owner dom m writes g =
-    eqb (g .grantor) owner && eqb (g .grantee) dom && eqb (g .frame) m && (not writes || g .writable)
+    eqb (g .frame) m && eqb (g .grantee) dom && eqb (g .grantor) owner && (not writes || g .writable)

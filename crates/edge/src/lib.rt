@@ -1,5 +1,4 @@
 // Page-table edges and grants as records (hv-s2's leafmap.rs, check.rs), and what one of them says.
-use p2m::Owner;
 use perm::Perm;
 ghost use mathlib.Core.Path.{_≡_};
 ghost use Rattle.edge.specs.Edge.{edgeOf, permOf, owns, counts};
@@ -75,17 +74,18 @@ impl Grant {
         }
     }
 
-    // Whether it lets `dom` read frame `mfn` of `owner`, or also write it. A grant for writing covers reading.
+    // Whether it lets `dom` read frame `mfn` of `owner`, or also write it. A grant for writing covers reading. The frame tells
+    // most grants apart, so it comes first.
     pub fn covers(self, owner: u16, dom: u16, mfn: u32, writable: bool) -> bool
         ensures { λ r. ⌜ r ≡ covers owner dom mfn writable self ⌝ }
     {
-        if self.grantor != owner as u32 {
+        if self.frame != mfn {
             return false;
         }
         if self.grantee != dom as u32 {
             return false;
         }
-        if self.frame != mfn {
+        if self.grantor != owner as u32 {
             return false;
         }
         if writable {
@@ -95,12 +95,13 @@ impl Grant {
     }
 }
 
-// Whether the domain owns the frame.
+// Whether the domain owns the frame. A domain's number is its owner number, and above those nobody's are.
 pub fn owns(frames: &[[u32; 2]], mfn: u32, dom: u16) -> bool
     ensures { λ r. ⌜ r ≡ owns (now (frames .entry)) dom mfn ⌝ }
 {
-    match p2m::owner_of(frames, mfn) {
-        Owner::Domain(owner) => owner == dom,
-        Owner::Nobody => false,
+    let at = mfn as usize;
+    if frames.len() <= at {
+        return false;
     }
+    frames[at][0] == dom as u32
 }

@@ -1,3 +1,4 @@
+pub mod Both
 pub mod Filled
 pub mod Onward
 pub mod Placed

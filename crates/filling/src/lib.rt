@@ -4,6 +4,8 @@ use p2m::Span;
 use p2m::TableSpan;
 use refusal::Refusal;
 use refusal::Verdict;
+ghost use Prim.Native.Nat.{ℕ, min};
+ghost use mathlib.Core.List.{[]};
 ghost use mathlib.Core.Path.{_≡_};
 ghost use lib.ListN.{length, getD, replicate};
 ghost use Rattle.filling.specs.Filling.{filling, put, putIn, placed, row17};
@@ -58,10 +60,14 @@ pub fn clear(map: &mut [u8])
     }
 }
 
-// Row 17: a frame has one span, or it would need two places in memory.
+// Row 17: a frame has one span, or it would need two places in memory. The pass that finds no frame has no branch to take, and most
+// maps need no other.
 pub fn no_conflict(base: &[u8], sup: &[u8]) -> Verdict
     ensures { λ r. ⌜ outcomeOf r ≡ first (eachFrom (row17 (now (sup .entry))) 0 (now (base .entry))) ⌝ }
 {
+    if overlap(base, sup) == 0 {
+        return Verdict::Accepted;
+    }
     for m in 0..base.len() {
         if base[m] != 0 {
             if entry_at(sup, m) != 0 {
@@ -70,6 +76,38 @@ pub fn no_conflict(base: &[u8], sup: &[u8]) -> Verdict
         }
     }
     Verdict::Accepted
+}
+
+// Zero only if no frame has an entry in both maps.
+fn overlap(base: &[u8], sup: &[u8]) -> u8
+    ensures { λ r. ⌜ (r ≡ 0 → (m : ℕ) → row17 (now (sup .entry)) m (getD (now (base .entry)) m 0) ≡ []) ⌝ }
+{
+    let mut most = 0;
+    for m in 0..shared_len(base, sup) {
+        let both = lesser(base[m], sup[m]);
+        if most < both {
+            most = both;
+        }
+    }
+    most
+}
+
+fn shared_len(base: &[u8], sup: &[u8]) -> usize
+    ensures { λ r. ⌜ r ≡ min (length (now (base .entry))) (length (now (sup .entry))) ⌝ }
+{
+    if base.len() < sup.len() {
+        return base.len();
+    }
+    sup.len()
+}
+
+fn lesser(a: u8, b: u8) -> u8
+    ensures { λ r. ⌜ r ≡ min a b ⌝ }
+{
+    if a < b {
+        return a;
+    }
+    b
 }
 
 // The entry of a frame, 0 past the map.

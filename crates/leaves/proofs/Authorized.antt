@@ -62,13 +62,13 @@ module _ (owner dom m : ℕ) (w : Bool) where
           (granted gs owner dom m w ≡ true → Granted gs owner dom m w) →
           Granted (g ∷ gs) owner dom m w
       go true c h rest =
-          let p = parts (eqb (g .grantor) owner) (eqb (g .grantee) dom) (eqb (g .frame) m) (not w || g .writable) c in
+          let p = parts (eqb (g .frame) m) (eqb (g .grantee) dom) (eqb (g .grantor) owner) (not w || g .writable) c in
           record {
             grant = g;
             listed = List·Memᴰ·head refl;
-            grantor = eqb-true _ _ (p .one);
+            grantor = eqb-true _ _ (p .three);
             grantee = eqb-true _ _ (p .two);
-            frame = eqb-true _ _ (p .three);
+            frame = eqb-true _ _ (p .one);
             enough = enough w (g .writable) (p .four);
           }
       go false c h rest =
@@ -86,7 +86,7 @@ module _ (owner dom m : ℕ) (w : Bool) where
       (g : Grant) →
       g .grantor ≡ owner → g .grantee ≡ dom → g .frame ≡ m → (w ≡ true → g .writable ≡ true) → covers owner dom m w g ≡ true
   unfolding covers
-  covers-it g o d f e = rw (eq-eqb _ _ o, eq-eqb _ _ d, eq-eqb _ _ f, covered w (g .writable) e)
+  covers-it g o d f e = rw (eq-eqb _ _ f, eq-eqb _ _ d, eq-eqb _ _ o, covered w (g .writable) e)
 
   found : (grants : List Grant) (g : Grant) → List·Memᴰ g grants → covers owner dom m w g ≡ true → granted grants owner dom m w ≡ true
   unfolding granted

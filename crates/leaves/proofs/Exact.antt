@@ -13,6 +13,7 @@ use Rattle.fields.specs.Named.{pick}
 use Rattle.filling.proofs.Onward.{on, off}
 use Rattle.filling.specs.Filling.{Filling, filling, mapOf, putIn, inMap, putUnder, placed, onward, unless, placedAll, cleared, filledInto, filled}
 use Rattle.layout.specs.Size.{entries as mapEntries}
+use Rattle.lent.proofs.Codes.{no-row3}
 use Rattle.p2m.specs.Frame.{kindAt, spanCode, spanOfKind}
 use Rattle.p2m.specs.declared.Span.{Span}
 use Rattle.p2m.specs.declared.Span.the-variants.{Base, Super}
@@ -87,10 +88,6 @@ module _ (frames : List (List ℕ)) (dom : ℕ) (s : Span) (p : ℕ) where
   small entry (e ∷ es) h = small (afterEdge frames dom s p entry e) es (small-one entry e h)
 
 -- so no row applies
-
-no-row3 : (code p byte : ℕ) → byte ≤ 3 → row3 code p byte ≡ []
-unfolding row3
-no-row3 code p byte h = rw (le-ltb _ _ h)
 
 no-row25 : (dom : ℕ) (wanted : ℕ → ℕ) (m entry : ℕ) → entry ≡ wanted m → row25 dom wanted m entry ≡ []
 unfolding row25

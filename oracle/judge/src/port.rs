@@ -1,4 +1,4 @@
-//! The port's side of words and layouts: the functions that `libprobe.a` and `libprobe_layouts.a` export.
+//! The port's side: the functions that `libprobe.a` and `libprobe_layouts.a` export.
 
 use crate::guard::Scene;
 use crate::inputs::Words;
