@@ -4,13 +4,15 @@ use mathlib.Core.Bool.{Bool, true, false, not, _&&_, false≢true}
 use mathlib.Core.List.{List, [], _∷_, _++_}
 use mathlib.Core.Path.{_≡_, refl, sym, ap, _∙_}
 use lib.Dec.{eqb}
+use Rattle.edge.specs.Edge.{ownedBy, owns}
 use Rattle.edge.specs.declared.Grant.{Grant}
 use Rattle.fields.specs.Numbers.{nonzero}
+use Rattle.p2m.specs.Frame.{ownerOf}
 use Rattle.p2m.specs.declared.Owner.{Owner}
 use Rattle.p2m.specs.declared.Owner.the-variants.{Domain, Nobody}
 use Rattle.refusal.proofs.None.{accept}
 use Rattle.refusal.specs.Table.{row, accepted, refused, first, refuseIf}
-use Rattle.authority.specs.Authority.{granted, reaches, writes, ownerRows}
+use Rattle.authority.specs.Authority.{granted, reaches, writes, ownerRows, reachRows}
 use Rattle.authority.proofs.Grants.{reading}
 
 -- t mapped, w for writing, r and x what may be reached for reading and for writing: what may be reached is not refused
@@ -74,3 +76,23 @@ module _ (grants : List Grant) (dom m entry : ℕ) where
               first (ownerRows grants dom m entry (Domain o)) ≡ refused (row 24 (dom ∷ m ∷ o ∷ []))
           go true t f = rw (foreign, n, t, f, g)
           go false t f = absurd (false≢true (sym f ∙ g))
+
+-- the rows of a frame are those of its owner
+
+module _ (frames : List (List ℕ)) (grants : List Grant) (dom m entry : ℕ) where
+  pub of-owner :
+      (o : Owner) → ownerOf frames m ≡ o → first (reachRows frames grants dom m entry) ≡ first (ownerRows grants dom m entry o)
+  unfolding reachRows
+  of-owner o e = ap (λ x. first (ownerRows grants dom m entry x)) e
+
+  pub own-frame : owns frames dom m ≡ true → first (reachRows frames grants dom m entry) ≡ accepted
+  unfolding owns
+  own-frame t = go (ownerOf frames m) refl t
+    where
+      go : (o : Owner) → ownerOf frames m ≡ o → ownedBy dom o ≡ true → first (reachRows frames grants dom m entry) ≡ accepted
+      go (Domain o) e t = of-owner (Domain o) e ∙ own grants dom m entry o t
+      go Nobody e t = absurd (false≢true t)
+
+pub foreign-frame : (frames : List (List ℕ)) (dom m o : ℕ) → owns frames dom m ≡ false → ownerOf frames m ≡ Domain o → eqb o dom ≡ false
+unfolding owns
+foreign-frame frames dom m o t e = sym (ap (ownedBy dom) e) ∙ t

@@ -51,12 +51,12 @@ fn reached(dom: u16, mfn: u32, entry: u8, frames: &[[u32; 2]], grants: &[[u32; 4
     if entry == 0 {
         return Verdict::Accepted;
     }
+    if edge::owns(frames, mfn, dom) {
+        return Verdict::Accepted;
+    }
     let Owner::Domain(owner) = p2m::owner_of(frames, mfn) else {
         return unauthorized(dom, mfn, 65536, entry);
     };
-    if owner == dom {
-        return Verdict::Accepted;
-    }
     if granted(grants, owner, dom, mfn, entry == Perm::Rw.code()) {
         return Verdict::Accepted;
     }
