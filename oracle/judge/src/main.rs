@@ -35,6 +35,7 @@ mod port;
 mod port_maps;
 mod record;
 mod record_inputs;
+mod record_maps;
 mod records;
 mod regime;
 mod self_test;

@@ -6,6 +6,7 @@ use std::path::Path;
 use crate::function::{functions, Function, Input, LAYOUTS, WORDS};
 use crate::inputs::{Random, Words};
 use crate::layout_inputs;
+use crate::record_maps;
 use crate::tally::Tally;
 
 /// About how many inputs of each sweep are recorded, besides the whole boundary.
@@ -47,7 +48,7 @@ pub fn check(folder: &str) -> Result<(), String> {
 }
 
 /// One record for each program that replays answers.
-fn records() -> Result<[Record; 2], String> {
+fn records() -> Result<[Record; 3], String> {
     let mut replay = Record::new("replay");
     for function in functions(&WORDS).filter(|function| function.recorded) {
         let line = |input: &Words| format!("{:016x} {}", function.op, digits(input));
@@ -57,7 +58,9 @@ fn records() -> Result<[Record; 2], String> {
     for function in functions(&LAYOUTS).filter(|function| function.recorded) {
         layouts.add(function, layout_inputs::recorded(), digits)?;
     }
-    Ok([replay, layouts])
+    let mut maps = Record::new("replay_maps");
+    (maps.stdin, maps.stdout) = record_maps::lines()?;
+    Ok([replay, layouts, maps])
 }
 
 impl Record {
@@ -98,6 +101,6 @@ fn selection(function: &Function) -> impl Iterator<Item = Words> {
 }
 
 /// Sixteen digits for each word, so that all lines are of one length.
-fn digits<const N: usize>(words: &[u64; N]) -> String {
+pub fn digits<const N: usize>(words: &[u64; N]) -> String {
     words.map(|word| format!("{word:016x}")).join(" ")
 }
