@@ -1,6 +1,6 @@
 -- Rows 23 and 24 of an entry whose frame has an owner, by who it is and what is granted.
 use Prim.Native.Nat.{ℕ}
-use mathlib.Core.Bool.{Bool, true, false, not, _&&_, false≢true}
+use mathlib.Core.Bool.{Bool, true, false, not, _&&_, _||_, false≢true}
 use mathlib.Core.List.{List, [], _∷_, _++_}
 use mathlib.Core.Path.{_≡_, refl, sym, ap, _∙_}
 use lib.Dec.{eqb}
@@ -25,37 +25,40 @@ quiet false true r x vs us e f = rw (e, f refl)
 quiet false false r x vs us e f = refl
 
 module _ (grants : List Grant) (dom m entry : ℕ) where
-  pub allowed :
-      (o : Owner) →
-      reaches grants dom m false o ≡ true →
-      (writes entry ≡ true → reaches grants dom m true o ≡ true) → ownerRows grants dom m entry o ≡ []
+  -- who may write may read
+  reads : (w : Bool) (o : Owner) → reaches grants dom m w o ≡ true → reaches grants dom m false o ≡ true
+  reads false o e = e
+  reads true Nobody e = e
+  reads true (Domain o) e = go (eqb o dom) e
+    where
+      go : (own : Bool) → (own || granted grants o dom m true) ≡ true → (own || granted grants o dom m false) ≡ true
+      go true e = refl
+      go false e = reading grants o dom m e
+
+  pub allowed : (o : Owner) → reaches grants dom m (writes entry) o ≡ true → ownerRows grants dom m entry o ≡ []
   unfolding ownerRows
-  allowed o r x =
-      quiet (nonzero entry) (writes entry) (reaches grants dom m false o) (reaches grants dom m true o) _ _ r x
+  allowed o r =
+      quiet (nonzero entry) (writes entry) (reaches grants dom m false o) (reaches grants dom m true o) _ _
+      (reads (writes entry) o r)
+      (λ w. sym (ap (λ x. reaches grants dom m x o) w) ∙ r)
 
   pub unmapped : (o : Owner) → entry ≡ 0 → first (ownerRows grants dom m entry o) ≡ accepted
   unfolding first ownerRows
   unmapped o e = rw e
 
-  pub nobody : nonzero entry ≡ true → first (ownerRows grants dom m entry Nobody) ≡ refused (row 23 (dom ∷ m ∷ 65536 ∷ entry ∷ []))
+  pub nobody :
+      nonzero entry ≡ true →
+      first (ownerRows grants dom m entry Nobody) ≡ refused (row 23 (dom ∷ m ∷ 65536 ∷ entry ∷ []))
   unfolding first ownerRows
   nobody e = rw e
 
   module _ (o : ℕ) where
     pub own : eqb o dom ≡ true → first (ownerRows grants dom m entry (Domain o)) ≡ accepted
-    own e = accept _ (allowed (Domain o) (rw e) (λ _. rw e))
+    own e = accept _ (allowed (Domain o) (rw e))
 
     module _ (foreign : eqb o dom ≡ false) where
       pub lent : granted grants o dom m (writes entry) ≡ true → first (ownerRows grants dom m entry (Domain o)) ≡ accepted
-      lent g =
-          accept _
-          (allowed (Domain o)
-          (rw (foreign, reads (writes entry) g))
-          (λ w. rw (foreign, sym (ap (granted grants o dom m) w) ∙ g)))
-        where
-          reads : (w : Bool) → granted grants o dom m w ≡ true → granted grants o dom m false ≡ true
-          reads true h = reading grants o dom m h
-          reads false h = h
+      lent g = accept _ (allowed (Domain o) (rw (foreign, g)))
 
       pub denied :
           nonzero entry ≡ true → granted grants o dom m false ≡ false →
@@ -81,7 +84,8 @@ module _ (grants : List Grant) (dom m entry : ℕ) where
 
 module _ (frames : List (List ℕ)) (grants : List Grant) (dom m entry : ℕ) where
   pub of-owner :
-      (o : Owner) → ownerOf frames m ≡ o → first (reachRows frames grants dom m entry) ≡ first (ownerRows grants dom m entry o)
+      (o : Owner) →
+      ownerOf frames m ≡ o → first (reachRows frames grants dom m entry) ≡ first (ownerRows grants dom m entry o)
   unfolding reachRows
   of-owner o e = ap (λ x. first (ownerRows grants dom m entry x)) e
 
@@ -89,10 +93,14 @@ module _ (frames : List (List ℕ)) (grants : List Grant) (dom m entry : ℕ) wh
   unfolding owns
   own-frame t = go (ownerOf frames m) refl t
     where
-      go : (o : Owner) → ownerOf frames m ≡ o → ownedBy dom o ≡ true → first (reachRows frames grants dom m entry) ≡ accepted
+      go :
+          (o : Owner) →
+          ownerOf frames m ≡ o → ownedBy dom o ≡ true → first (reachRows frames grants dom m entry) ≡ accepted
       go (Domain o) e t = of-owner (Domain o) e ∙ own grants dom m entry o t
       go Nobody e t = absurd (false≢true t)
 
-pub foreign-frame : (frames : List (List ℕ)) (dom m o : ℕ) → owns frames dom m ≡ false → ownerOf frames m ≡ Domain o → eqb o dom ≡ false
+pub foreign-frame :
+    (frames : List (List ℕ)) (dom m o : ℕ) →
+    owns frames dom m ≡ false → ownerOf frames m ≡ Domain o → eqb o dom ≡ false
 unfolding owns
 foreign-frame frames dom m o t e = sym (ap (ownedBy dom) e) ∙ t

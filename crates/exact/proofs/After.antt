@@ -38,7 +38,9 @@ module _ (frames : List (List ℕ)) (dom : ℕ) (s : Span) (m : ℕ) where
       getD (set xs (e .child) (entryOf e)) m 0 ≡ afterEdge frames dom s m (getD xs m 0) e
   stored e xs l inside = go (eqb (e .child) m) refl
     where
-      go : (b : Bool) → eqb (e .child) m ≡ b → getD (set xs (e .child) (entryOf e)) m 0 ≡ afterEdge frames dom s m (getD xs m 0) e
+      go :
+          (b : Bool) →
+          eqb (e .child) m ≡ b → getD (set xs (e .child) (entryOf e)) m 0 ≡ afterEdge frames dom s m (getD xs m 0) e
       go true t =
           let here = eqb-true (e .child) m t in
           ap (λ k. getD (set xs (e .child) (entryOf e)) k 0) (sym here)

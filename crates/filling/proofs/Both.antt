@@ -25,7 +25,9 @@ pub everywhere :
     (m : ℕ) → min (getD base m 0) (getD sup m 0) ≤ most
 everywhere base sup most inside m = go (ltb m (length base)) refl (ltb m (length sup)) refl
   where
-    go : (a : Bool) → ltb m (length base) ≡ a → (b : Bool) → ltb m (length sup) ≡ b → min (getD base m 0) (getD sup m 0) ≤ most
+    go :
+        (a : Bool) → ltb m (length base) ≡ a →
+        (b : Bool) → ltb m (length sup) ≡ b → min (getD base m 0) (getD sup m 0) ≤ most
     go true s true t = inside m (omega (arith, ltb-true m (length base) s, ltb-true m (length sup) t))
     go false s b t = let z = List·getD-eq-default base 0 (ltb-false m (length base) s) in omega (arith, z)
     go true s false t = let z = List·getD-eq-default sup 0 (ltb-false m (length sup) t) in omega (arith, z)

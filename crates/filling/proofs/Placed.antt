@@ -36,7 +36,8 @@ module _ (frames : List (List ℕ)) (dom : ℕ) where
     place-at inside a =
         ap (λ xs. placedAll frames dom (map edgeOf xs) f) (drop-cons rows i [] inside)
         ∙ place-next (edgeOf (getD rows i [])) _ f a
-        ∙ ap (λ k. placedAll frames dom (map edgeOf (drop k rows)) (placed frames dom f (edgeOf (getD rows i [])))) (sym (add-one i))
+        ∙ ap (λ k. placedAll frames dom (map edgeOf (drop k rows)) (placed frames dom f (edgeOf (getD rows i []))))
+        (sym (add-one i))
 
     pub place-end : length rows ≤ i → placedAll frames dom (map edgeOf (drop i rows)) f ≡ f
     place-end outside =

@@ -88,7 +88,9 @@ module _ (owner dom m : ℕ) (w : Bool) where
   unfolding covers
   covers-it g o d f e = rw (eq-eqb _ _ f, eq-eqb _ _ d, eq-eqb _ _ o, covered w (g .writable) e)
 
-  found : (grants : List Grant) (g : Grant) → List·Memᴰ g grants → covers owner dom m w g ≡ true → granted grants owner dom m w ≡ true
+  found :
+      (grants : List Grant) (g : Grant) →
+      List·Memᴰ g grants → covers owner dom m w g ≡ true → granted grants owner dom m w ≡ true
   unfolding granted
   found (x ∷ xs) g (List·Memᴰ·head q) c = rw (ap (covers owner dom m w) (sym q) ∙ c)
   found (x ∷ xs) g (List·Memᴰ·tail t) c = or-right (covers owner dom m w x) (granted xs owner dom m w) (found xs g t c)
@@ -120,18 +122,6 @@ module _ (frames : List (List ℕ)) (grants : List Grant) (dom m : ℕ) (w : Boo
       ap (reaches grants dom m w) (g .owns)
       ∙ or-right (eqb (g .owner) dom) _ (from-list (g .owner) dom m w grants (g .grants-it)))
 
--- who may write may read
-reads :
-    (grants : List Grant) (dom m : ℕ) (w : Bool) (o : Owner) →
-    reaches grants dom m w o ≡ true → reaches grants dom m false o ≡ true
-reads grants dom m false o e = e
-reads grants dom m true Nobody e = e
-reads grants dom m true (Domain o) e = go (eqb o dom) e
-  where
-    go : (own : Bool) → (own || granted grants o dom m true) ≡ true → (own || granted grants o dom m false) ≡ true
-    go true e = refl
-    go false e = reading grants o dom m e
-
 -- the tests of rows 23 and 24: t mapped, w for writing, r and x what may be reached for reading and for writing
 let-by :
     (t w r x : Bool) →
@@ -149,12 +139,6 @@ module _ (frames : List (List ℕ)) (grants : List Grant) (dom m entry : ℕ) wh
   at-access true p = p .1 refl
   at-access false p = p .0
 
-  for-writing :
-      (w : Bool) → reaches grants dom m w (ownerOf frames m) ≡ true →
-      w ≡ true → reaches grants dom m true (ownerOf frames m) ≡ true
-  for-writing true e t = e
-  for-writing false e t = absurd (false≢true t)
-
   pub no-row-reaches :
       reachRows frames grants dom m entry ≡ [] → nonzero entry ≡ true → MayReach frames grants dom m (writes entry)
   unfolding reachRows ownerRows
@@ -170,10 +154,7 @@ module _ (frames : List (List ℕ)) (grants : List Grant) (dom m entry : ℕ) wh
     where
       go : (t : Bool) → nonzero entry ≡ t → reachRows frames grants dom m entry ≡ []
       go true n =
-          let r = reached frames grants dom m (writes entry) (may n) in
-          allowed grants dom m entry (ownerOf frames m)
-          (reads grants dom m (writes entry) (ownerOf frames m) r)
-          (for-writing (writes entry) r)
+          allowed grants dom m entry (ownerOf frames m) (reached frames grants dom m (writes entry) (may n))
       go false n = none _ (unmapped grants dom m entry (ownerOf frames m) (eqb-true entry 0 (not-false _ n)))
 
 sound :

@@ -113,14 +113,15 @@ from-cleared Base n m p = zero-at n p
 from-cleared Super n m p = zero-at m p
 
 module _ (frames : List (List ℕ)) (dom : ℕ) (edges : List Edge) (n m : ℕ) where
-  g : Filling
-  g = placedAll frames dom edges (cleared n m)
-
   -- an accepted filling placed all edges, and its maps are theirs
-  pub all-placed : filledInto frames dom edges n m .outcome ≡ accepted → placedAll frames dom edges (cleared n m) .outcome ≡ accepted
-  unfolding filledInto g
+  pub all-placed :
+      filledInto frames dom edges n m .outcome ≡ accepted → placedAll frames dom edges (cleared n m) .outcome ≡ accepted
+  unfolding filledInto
   all-placed a = go (g .outcome) refl
     where
+      g : Filling
+      g = placedAll frames dom edges (cleared n m)
+
       go : (o : Outcome) → g .outcome ≡ o → g .outcome ≡ accepted
       go accepted e = e
       go (refused r) e =

@@ -1,4 +1,4 @@
--- Maps that the filling accepted pass `check_exact`: they are as long as they were, hold codes, and their entries are the expected ones.
+-- Maps that the filling accepted pass `check_exact`: their lengths stay, they hold codes, and their entries are the expected ones.
 use Prim.Native.Nat.{ℕ, _≤_, zero-le}
 use mathlib.Core.Bool.{Bool, true, false, _&&_}
 use mathlib.Core.List.{List, [], _∷_, flatMap}
@@ -57,7 +57,9 @@ module _ (frames : List (List ℕ)) (dom : ℕ) (s : Span) where
       go true = kept-under s found f e
       go false = refl
 
-  kept-next : (f : Filling) (e : Edge) (o : Outcome) → length (mapOf s (unless o (placed frames dom f e) f)) ≡ length (mapOf s f)
+  kept-next :
+      (f : Filling) (e : Edge) (o : Outcome) →
+      length (mapOf s (unless o (placed frames dom f e) f)) ≡ length (mapOf s f)
   kept-next f e accepted = kept-one f e
   kept-next f e (refused r) = refl
 
@@ -138,7 +140,9 @@ module _ (frames : List (List ℕ)) (dom : ℕ) (edges : List Edge) (base sup : 
   short Base a = ltb-false _ _ (test _ _ _ (both (row2 base) _ (none _ a) .0))
   short Super a = ltb-false _ _ (test _ _ _ (both (row2 sup) _ (both (row2 base) _ (none _ a) .1) .0))
 
-  cleared-length : (s : Span) → length (mapOf s (cleared (length base) (length sup))) ≡ length (mapOf s (filling base sup accepted))
+  cleared-length :
+      (s : Span) →
+      length (mapOf s (cleared (length base) (length sup))) ≡ length (mapOf s (filling base sup accepted))
   cleared-length Base = length-replicate (length base) 0
   cleared-length Super = length-replicate (length sup) 0
 

@@ -29,4 +29,7 @@ examples =
       row25 = refl;
       last-edge = refl;
       row3-code = refl;
+      hidden-conflict = refl;
+      refused-yet-exact = refl;
+      rx-by-reading = refl;
     }

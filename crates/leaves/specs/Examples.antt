@@ -64,3 +64,11 @@ pub record Examples : Type 0 where
   -- the last edge of the span counts
   pub last-edge : exact Super (plain 3 0 ∷ edge 3 0 0 1 1 0 ∷ plain 2 0 ∷ []) (2 ∷ []) ≡ accepted
   pub row3-code : exact Super [] (0 ∷ 4 ∷ []) ≡ refused (row 3 (2 ∷ 1 ∷ []))
+  -- 15 comes before 17: a refused filling can leave a frame in both maps
+  pub hidden-conflict :
+      fill (plain 2 0 ∷ plain 3 0 ∷ plain 4 0 ∷ []) (0 ∷ []) (0 ∷ [])
+      ≡ filling (1 ∷ []) (1 ∷ []) (refused (row 15 (4 ∷ [])))
+  -- `check_exact` passes over an edge that the filling refuses
+  pub refused-yet-exact : exact Base (plain 4 0 ∷ []) (0 ∷ []) ≡ accepted
+  -- a grant says nothing of execution
+  pub rx-by-reading : authorize ((7 ∷ 3 ∷ 1 ∷ 0 ∷ []) ∷ []) (0 ∷ 3 ∷ []) ≡ accepted

@@ -78,8 +78,8 @@ returns-2 : tie.Need-returns-2 Inv-loop μ-loop
 returns-2 c =
     let h = c .before in
     let a = h .before .before .args in
-    from-end (now (a .leaves)) (h .loop .m) (c .loop-test .left) (reachRows (now (a .frames)) (map grantOf (now (a .grants))) (a .dom))
-    ∙ sym (h .loop .inv)
+    let rows = reachRows (now (a .frames)) (map grantOf (now (a .grants))) (a .dom) in
+    from-end (now (a .leaves)) (h .loop .m) (c .loop-test .left) rows ∙ sym (h .loop .inv)
 
 pub all-reached-spec : {M : Type 1} → statement M
 all-reached-spec =

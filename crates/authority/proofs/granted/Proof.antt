@@ -1,6 +1,6 @@
 -- `granted` meets its contract: what is asked is asked of the grants from i on.
-use Prim.Native.Nat.{_+_, _-_}
-use mathlib.Core.Bool.{_||_}
+use Prim.Native.Nat.{ℕ, _+_, _-_}
+use mathlib.Core.Bool.{Bool, _||_}
 use mathlib.Core.List.{map}
 use mathlib.Core.Path.{_≡_, refl, _∙_, sym, ap}
 use lib.ListN.{drop}
@@ -13,10 +13,18 @@ use Rattle.authority.proofs.granted.Statement.{statement}
 use Rattle.authority.proofs.granted.Tie as tie
 
 abbrev Inv-loop : tie.InvT-loop
-Inv-loop grants owner dom mfn writable i₀ i-end i = granted (map grantOf grants) owner dom mfn writable ≡ granted (map grantOf (drop i grants)) owner dom mfn writable
+Inv-loop grants owner dom mfn writable i₀ i-end i =
+    granted (map grantOf grants) owner dom mfn writable
+    ≡ granted (map grantOf (drop i grants)) owner dom mfn writable
 
 abbrev μ-loop : tie.MeasureT-loop
 μ-loop grants owner dom mfn writable i₀ i-end i = i-end - i
+
+-- the answer of the grants from a position on
+abbrev after : ℕ → tie.Start Inv-loop μ-loop → Bool
+after i s =
+    let a = s .args in
+    granted (map grantOf (drop i (now (a .grants)))) (a .owner) (a .dom) (a .mfn) (a .writable)
 
 -- after the call: its answer, or that of the grants after i
 turn :
@@ -24,16 +32,15 @@ turn :
     let h = v .before .before .before .before in
     let a = h .before .args in
     granted (map grantOf (now (a .grants))) (a .owner) (a .dom) (a .mfn) (a .writable)
-    ≡ (v .covers .result || granted (map grantOf (drop (h .loop .i + 1) (now (a .grants)))) (a .owner) (a .dom) (a .mfn) (a .writable))
+    ≡ (v .covers .result || after (h .loop .i + 1) (h .before))
 turn v =
     let in-loop = v .before .before .before in
     let h = in-loop .before in
     let a = h .before .args in
-    let rest = granted (map grantOf (drop (h .loop .i + 1) (now (a .grants)))) (a .owner) (a .dom) (a .mfn) (a .writable) in
     let asked = v .covers .ensures ∙ ap (covers (a .owner) (a .dom) (a .mfn) (a .writable)) (v .before .of .ensures) in
     h .loop .inv
     ∙ granted-at (a .owner) (a .dom) (a .mfn) (a .writable) (now (a .grants)) (h .loop .i) (in-loop .loop-test .taken)
-    ∙ ap (λ b. b || rest) (sym asked)
+    ∙ ap (λ b. b || after (h .loop .i + 1) (h .before)) (sym asked)
 
 loop-holds : tie.Need-loop-holds Inv-loop μ-loop
 loop-holds c = refl
@@ -66,7 +73,8 @@ returns-2 : tie.Need-returns-2 Inv-loop μ-loop
 returns-2 c =
     let h = c .before in
     let a = h .before .args in
-    sym (h .loop .inv ∙ granted-end (a .owner) (a .dom) (a .mfn) (a .writable) (now (a .grants)) (h .loop .i) (c .loop-test .left))
+    let none = granted-end (a .owner) (a .dom) (a .mfn) (a .writable) (now (a .grants)) (h .loop .i) (c .loop-test .left) in
+    sym (h .loop .inv ∙ none)
 
 pub granted-spec : {M : Type 1} → statement M
 granted-spec =

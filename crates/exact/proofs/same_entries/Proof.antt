@@ -73,7 +73,8 @@ returns-2 : tie.Need-returns-2 Inv-loop μ-loop
 returns-2 c =
     let h = c .before in
     let a = h .before .args in
-    from-end (now (a .leaves)) (h .loop .m) (c .loop-test .left) (row25 (a .dom) (λ k. getD (now (a .wanted)) k 0)) ∙ sym (h .loop .inv)
+    from-end (now (a .leaves)) (h .loop .m) (c .loop-test .left) (row25 (a .dom) (λ k. getD (now (a .wanted)) k 0))
+    ∙ sym (h .loop .inv)
 
 pub same-entries-spec : {M : Type 1} → statement M
 same-entries-spec =
