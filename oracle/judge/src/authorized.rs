@@ -44,14 +44,18 @@ const ANSWERS: &[Answer] = &[
     ("accepted", row::<0>),
     ("row 2", row::<2>),
     ("row 3", row::<3>),
-    ("row 23 of nobody's frame", |answer| {
-        answer[0] == 23 && answer[3] == NOBODY
-    }),
-    ("row 23 of a domain's frame", |answer| {
-        answer[0] == 23 && answer[3] < NOBODY
-    }),
+    ("row 23 of nobody's frame", nobodys),
+    ("row 23 of a domain's frame", anothers),
     ("row 24", row::<24>),
 ];
+
+pub fn nobodys(answer: &Words) -> bool {
+    answer[0] == 23 && answer[3] == NOBODY
+}
+
+pub fn anothers(answer: &Words) -> bool {
+    answer[0] == 23 && answer[3] < NOBODY
+}
 
 impl Input for Granted {
     type Op = ();

@@ -5,6 +5,7 @@ use crate::authorized::Granted;
 use crate::function::{with, Fault};
 use crate::inputs::{words, Words};
 use crate::layout::ACCEPTED;
+use crate::map_faults::{four_as_3, report_last};
 use crate::maps::{self, MAP_LEN};
 use crate::misread;
 use crate::p2m::NOBODY;
@@ -30,23 +31,12 @@ pub const FAULTS: &[Fault<Granted>] = &[
     fault(
         "authorized-row-3-of-4",
         "a byte of 4 is accepted",
-        |x, answer| {
-            *answer = with(x, |x| {
-                x.map
-                    .iter_mut()
-                    .for_each(|byte| *byte -= u8::from(*byte == 4));
-            });
-        },
+        |x, answer| *answer = with(x, |x| four_as_3(&mut x.map)),
     ),
     fault(
         "authorized-row-3-highest",
         "the last byte above 3 is reported",
-        |x, answer| {
-            let last = x.map.iter().rposition(|byte| *byte > 3);
-            if let Some(last) = last.filter(|_| answer[0] == 3) {
-                answer[2] = last as u64;
-            }
-        },
+        |x, answer| report_last(&x.map, answer),
     ),
     fault(
         "authorized-row-3-when-reached",

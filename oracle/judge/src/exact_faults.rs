@@ -5,6 +5,7 @@ use crate::exact::Linked;
 use crate::function::{with, Fault};
 use crate::inputs::Words;
 use crate::layout::ACCEPTED;
+use crate::map_faults::{four_as_3, report_last};
 use crate::maps::{self, MAP_LEN};
 use crate::port::UNWRITTEN;
 use crate::port_maps;
@@ -28,23 +29,12 @@ pub const FAULTS: &[Fault<Linked>] = &[
     fault(
         "exact-row-3-of-4",
         "a byte of 4 is accepted",
-        |x, answer| {
-            *answer = with(x, |x| {
-                x.map
-                    .iter_mut()
-                    .for_each(|byte| *byte -= u8::from(*byte == 4));
-            });
-        },
+        |x, answer| *answer = with(x, |x| four_as_3(&mut x.map)),
     ),
     fault(
         "exact-row-3-highest",
         "the last byte above 3 is reported",
-        |x, answer| {
-            let last = x.map.iter().rposition(|byte| *byte > 3);
-            if let Some(last) = last.filter(|_| answer[0] == 3) {
-                answer[2] = last as u64;
-            }
-        },
+        |x, answer| report_last(&x.map, answer),
     ),
     fault(
         "exact-row-3-always-base",

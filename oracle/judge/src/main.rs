@@ -27,6 +27,7 @@ mod layout;
 mod layout_edges;
 mod layout_faults;
 mod layout_inputs;
+mod map_faults;
 mod map_inputs;
 mod maps;
 mod misread;

@@ -1,9 +1,11 @@
 //! Recorded calls on leaf maps, each small enough for a line: maps of eight entries, four edges,
 //! five frames and two grants.
 
+use std::array;
+
 use given_core::p2m::DomId;
 
-use crate::authorized::{authorized, Granted};
+use crate::authorized::{anothers, authorized, nobodys, Granted};
 use crate::exact::{exact, Linked};
 use crate::fill::{fill, Filling};
 use crate::function::Answer;
@@ -34,12 +36,8 @@ const FILLED: &[Answer] = &[
 const REACHED: &[Answer] = &[
     ("accepted", row::<0>),
     ("row 3", row::<3>),
-    ("row 23 of nobody's frame", |answer| {
-        answer[0] == 23 && answer[3] == NOBODY
-    }),
-    ("row 23 of a domain's frame", |answer| {
-        answer[0] == 23 && answer[3] < NOBODY
-    }),
+    ("row 23 of nobody's frame", nobodys),
+    ("row 23 of a domain's frame", anothers),
     ("row 24", row::<24>),
 ];
 
@@ -73,30 +71,23 @@ pub fn lines() -> Result<(String, String), String> {
 
 /// The answer, and after a filling both maps.
 fn answer(call: &Call) -> Vec<Words> {
-    let dom = call[1] as DomId;
-    let frames: Vec<Frame> = call[9..14].iter().copied().map(frame).collect();
     match call[0] {
         FILL => {
             let filled = fill(&filling(call));
-            let map = |bytes: Vec<u8>| {
-                Words::try_from(bytes.into_iter().map(u64::from).collect::<Vec<_>>())
-            };
-            let [base, sup] =
-                [filled.base, filled.sup].map(|bytes| map(bytes).expect("eight entries"));
-            vec![filled.words, base, sup]
+            vec![filled.words, entries(&filled.base), entries(&filled.sup)]
         }
         AUTHORIZED => vec![authorized(&Granted {
-            dom,
+            dom: call[1] as DomId,
             map: call[3].to_le_bytes().into(),
-            frames,
+            frames: frames(call),
             grants: call[14..].iter().copied().map(grant).collect(),
         })],
         _ => vec![exact(&Linked {
-            dom,
+            dom: call[1] as DomId,
             map: call[3].to_le_bytes().into(),
             is_super: call[2] as u32,
             edges: edges(call),
-            frames,
+            frames: frames(call),
         })],
     }
 }
@@ -104,11 +95,19 @@ fn answer(call: &Call) -> Vec<Words> {
 fn filling(call: &Call) -> Filling {
     Filling {
         edges: edges(call),
-        frames: call[9..14].iter().copied().map(frame).collect(),
+        frames: frames(call),
         dom: call[1] as DomId,
         base: call[3].to_le_bytes().into(),
         sup: call[4].to_le_bytes().into(),
     }
+}
+
+fn entries(map: &[u8]) -> Words {
+    array::from_fn(|place| map[place].into())
+}
+
+fn frames(call: &Call) -> Vec<Frame> {
+    call[9..14].iter().copied().map(frame).collect()
 }
 
 fn edges(call: &Call) -> Vec<Edge> {
