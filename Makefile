@@ -35,7 +35,7 @@ compare:
 compare-long: libraries
 	@$(JUDGE) compare --long
 
-# The Rust's answers that the programs replay and replay_layouts must print.
+# The Rust's answers that the programs replay, replay_layouts and replay_maps must print.
 record: libraries
 	@$(JUDGE) record crates
 

@@ -23,7 +23,7 @@ pub struct Grant {
 }
 
 impl Edge {
-    // From a row of its six fields, of which zero is no and all else yes.
+    // From a row of its six fields; of the flags zero is no and all else yes.
     pub fn of(row: [u32; 6]) -> Edge
         ensures { λ r. ⌜ r ≡ edgeOf row ⌝ }
     {
@@ -62,7 +62,7 @@ impl Edge {
 }
 
 impl Grant {
-    // From a row of its four fields, of which zero is no and all else yes.
+    // From a row of its four fields; of the flag zero is no and all else yes.
     pub fn of(row: [u32; 4]) -> Grant
         ensures { λ r. ⌜ r ≡ grantOf row ⌝ }
     {

@@ -53,7 +53,7 @@ abbrev pub putUnder : TableSpan → Filling → Edge → Filling
 putUnder (Leaves s) f e = inMap s (putIn (mapOf s f) e) f
 putUnder Unsupported f e = filling (f .base) (f .sup) (refused (row 15 (e .parent ∷ [])))
 
--- one edge
+-- one edge: skipped, or put under its parent's span
 unfoldable pub placed : List (List ℕ) → ℕ → Filling → Edge → Filling
 placed frames dom f e = pick (counts frames dom e) (putUnder (spanOfKind (kindAt frames (e .parent))) f e) f
 

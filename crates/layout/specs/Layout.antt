@@ -1,10 +1,10 @@
 -- The layout's fields as numbers, and its tables.
 use Prim.Native.Nat.{ℕ}
-use mathlib.Core.Bool.{not}
 use mathlib.Core.List.{List, [], _∷_}
 use lib.Dec.{eqb}
 use lib.ListN.{getD}
 use Rattle.fields.specs.Named.{pick}
+use Rattle.fields.specs.Numbers.{nonzero}
 use Rattle.layout.specs.declared.GuestImage.{GuestImage}
 use Rattle.layout.specs.declared.GuestImage.the-variants.{At, Absent}
 use Rattle.layout.specs.declared.Layout.{Layout}
@@ -32,7 +32,7 @@ layoutOf x =
       «sup_pa_base» = getD x 11 0;
       «device_base» = getD x 12 0;
       «device_len» = getD x 13 0;
-      «sup_wx_exempt» = not (eqb (getD x 14 0) 0);
+      «sup_wx_exempt» = nonzero (getD x 14 0);
       «sup_frames» = getD x 15 0;
     }
 
