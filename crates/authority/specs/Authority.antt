@@ -6,7 +6,7 @@ use lib.Dec.{eqb}
 use Rattle.edge.specs.Grant.{covers}
 use Rattle.edge.specs.declared.Grant.{Grant}
 use Rattle.fields.specs.Numbers.{nonzero}
-use Rattle.p2m.specs.Frame.{ownerOf}
+use Rattle.p2m.specs.Frame.{nobody, ownerOf}
 use Rattle.p2m.specs.declared.Owner.{Owner}
 use Rattle.p2m.specs.declared.Owner.the-variants.{Domain, Nobody}
 use Rattle.perm.specs.Perm.{permCode}
@@ -24,10 +24,9 @@ abbrev pub reaches : List Grant → ℕ → ℕ → Bool → Owner → Bool
 reaches grants dom m writes (Domain owner) = eqb owner dom || granted grants owner dom m writes
 reaches grants dom m writes Nobody = false
 
--- an owner as a number, 65,536 where there is none
 abbrev pub ownerNumber : Owner → ℕ
 ownerNumber (Domain owner) = owner
-ownerNumber Nobody = 65536
+ownerNumber Nobody = nobody
 
 -- the entry lets the domain write
 abbrev pub writes : ℕ → Bool

@@ -42,6 +42,6 @@ ownedBy dom Nobody = false
 unfoldable pub owns : List (List ℕ) → ℕ → ℕ → Bool
 owns frames dom m = ownedBy dom (ownerOf frames m)
 
--- all others, non-leaf edges and edges whose parent the domain doesn't own, are skipped
+-- non-leaf edges and edges whose parent the domain doesn't own are skipped; the others count
 unfoldable pub counts : List (List ℕ) → ℕ → Edge → Bool
 counts frames dom e = e .leaf && owns frames dom (e .parent)

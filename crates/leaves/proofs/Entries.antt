@@ -98,7 +98,7 @@ all frames dom s p (e ∷ es) f h a =
     ∙ ap (λ k. afterEdges frames dom s p k es) (one frames dom p s f e ok)
 
 -- row 17 changes no map
-held : (s : Span) (f : Filling) → mapOf s (conflicts f) ≡ mapOf s f
+pub held : (s : Span) (f : Filling) → mapOf s (conflicts f) ≡ mapOf s f
 unfolding conflicts
 held Base f = refl
 held Super f = refl

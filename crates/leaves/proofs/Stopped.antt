@@ -1,15 +1,17 @@
--- Where 15 or 16 stops a filling: the first edge whose step is refused.
+-- What a refused filling holds: 15 and 16 stop it at the first edge whose step is refused, 17 comes after all edges.
 use Prim.Native.Nat.{ℕ}
 use mathlib.Core.Bool.{Bool, true, false}
-use mathlib.Core.List.{List, [], _∷_}
+use mathlib.Core.List.{List, [], _∷_, _++_}
+use mathlib.Core.Logic.{_⊎_, inl, inr}
 use mathlib.Core.Path.{_≡_, refl, sym, ap, _∙_}
 use lib.Dec.{ltb}
 use lib.ListN.{length}
 use Rattle.edge.specs.Edge.{counts}
 use Rattle.edge.specs.declared.Edge.{Edge}
 use Rattle.fields.specs.Named.{pick}
+use Rattle.filling.proofs.Onward.{on, off}
 use Rattle.filling.proofs.Placed.{place-none, place-next, place-stop}
-use Rattle.filling.specs.Filling.{Filling, mapOf, putIn, inMap, putUnder, placed, placedAll, cleared}
+use Rattle.filling.specs.Filling.{Filling, mapOf, putIn, inMap, putUnder, placed, placedAll, conflicts, cleared, filledInto}
 use Rattle.p2m.specs.Frame.{kindAt, spanOfKind}
 use Rattle.p2m.specs.declared.Span.{Span}
 use Rattle.p2m.specs.declared.Span.the-variants.{Base, Super}
@@ -17,8 +19,18 @@ use Rattle.p2m.specs.declared.TableSpan.{TableSpan}
 use Rattle.p2m.specs.declared.TableSpan.the-variants.{Leaves, Unsupported}
 use Rattle.refusal.proofs.None.{refused≢accepted}
 use Rattle.refusal.specs.Table.{Row, Outcome, accepted, refused}
-use Rattle.leaves.specs.Entries.{Stopped, StopsAtEdge}
-use Rattle.leaves.proofs.Entries.{putBy}
+use Rattle.leaves.specs.Entries.{Stopped, Conflicting, RefusedHolds}
+use Rattle.leaves.proofs.Entries.{putBy, held as conflicts-held}
+
+-- the same of edges that are placed into any two maps
+record StoppedFrom (frames : List (List ℕ)) (dom : ℕ) (edges : List Edge) (f : Filling) (r : Row) : Type 0 where
+  before : List Edge
+  failing : Edge
+  after : List Edge
+  split : edges ≡ before ++ failing ∷ after
+  placed-before : placedAll frames dom before f .outcome ≡ accepted
+  fails : placed frames dom (placedAll frames dom before f) failing .outcome ≡ refused r
+  held : (s : Span) → mapOf s (placedAll frames dom edges f) ≡ mapOf s (placedAll frames dom before f)
 
 -- the edge that is refused leaves both maps as they were
 
@@ -42,11 +54,11 @@ held-under Base Unsupported f e r h = refl
 held-under Super Unsupported f e r h = refl
 
 module _ (frames : List (List ℕ)) (dom : ℕ) where
-  held :
+  unchanged :
       (s : Span) (f : Filling) (e : Edge) (r : Row) →
       placed frames dom f e .outcome ≡ refused r → mapOf s (placed frames dom f e) ≡ mapOf s f
   unfolding placed
-  held s f e r h = go (counts frames dom e) h
+  unchanged s f e r h = go (counts frames dom e) h
     where
       found : TableSpan
       found = spanOfKind (kindAt frames (e .parent))
@@ -63,7 +75,7 @@ module _ (frames : List (List ℕ)) (dom : ℕ) where
       f .outcome ≡ accepted →
       placed frames dom f e .outcome ≡ refused q →
       placedAll frames dom (e ∷ es) f .outcome ≡ refused r →
-      Stopped frames dom (e ∷ es) f r
+      StoppedFrom frames dom (e ∷ es) f r
   at-once e es f q r a t h =
       let none = place-none frames dom f in
       let all = place-next frames dom e es f a ∙ place-stop frames dom es (placed frames dom f e) q t in
@@ -75,14 +87,13 @@ module _ (frames : List (List ℕ)) (dom : ℕ) where
         placed-before = ap (λ (g : Filling). g .outcome) none ∙ a;
         fails =
             ap (λ g. placed frames dom g e .outcome) none ∙ sym (ap (λ (g : Filling). g .outcome) all) ∙ h;
-        base-held = ap (λ (g : Filling). g .base) all ∙ held Base f e q t ∙ sym (ap (λ (g : Filling). g .base) none);
-        sup-held = ap (λ (g : Filling). g .sup) all ∙ held Super f e q t ∙ sym (ap (λ (g : Filling). g .sup) none);
+        held = λ s. ap (mapOf s) all ∙ unchanged s f e q t ∙ sym (ap (mapOf s) none);
       }
 
   -- the first edge is placed
   later :
       (e : Edge) (es : List Edge) (f : Filling) (r : Row) →
-      f .outcome ≡ accepted → Stopped frames dom es (placed frames dom f e) r → Stopped frames dom (e ∷ es) f r
+      f .outcome ≡ accepted → StoppedFrom frames dom es (placed frames dom f e) r → StoppedFrom frames dom (e ∷ es) f r
   later e es f r a s =
       let next = place-next frames dom e es f a in
       let first = place-next frames dom e (s .before) f a in
@@ -93,13 +104,12 @@ module _ (frames : List (List ℕ)) (dom : ℕ) where
         split = ap (λ xs. e ∷ xs) (s .split);
         placed-before = ap (λ (g : Filling). g .outcome) first ∙ s .placed-before;
         fails = ap (λ g. placed frames dom g (s .failing) .outcome) first ∙ s .fails;
-        base-held = ap (λ (g : Filling). g .base) next ∙ s .base-held ∙ sym (ap (λ (g : Filling). g .base) first);
-        sup-held = ap (λ (g : Filling). g .sup) next ∙ s .sup-held ∙ sym (ap (λ (g : Filling). g .sup) first);
+        held = λ u. ap (mapOf u) next ∙ s .held u ∙ sym (ap (mapOf u) first);
       }
 
   stops :
       (es : List Edge) (f : Filling) (r : Row) →
-      f .outcome ≡ accepted → placedAll frames dom es f .outcome ≡ refused r → Stopped frames dom es f r
+      f .outcome ≡ accepted → placedAll frames dom es f .outcome ≡ refused r → StoppedFrom frames dom es f r
   stops [] f r a h =
       absurd (refused≢accepted r (sym h ∙ ap (λ (g : Filling). g .outcome) (place-none frames dom f) ∙ a))
   stops (e ∷ es) f r a h = go (placed frames dom f e .outcome) refl (stops es (placed frames dom f e) r)
@@ -109,11 +119,38 @@ module _ (frames : List (List ℕ)) (dom : ℕ) where
           placed frames dom f e .outcome ≡ o →
           (placed frames dom f e .outcome ≡ accepted →
           placedAll frames dom es (placed frames dom f e) .outcome ≡ refused r →
-          Stopped frames dom es (placed frames dom f e) r) →
-          Stopped frames dom (e ∷ es) f r
+          StoppedFrom frames dom es (placed frames dom f e) r) →
+          StoppedFrom frames dom (e ∷ es) f r
       go accepted t rest =
           later e es f r a (rest t (sym (ap (λ (g : Filling). g .outcome) (place-next frames dom e es f a)) ∙ h))
       go (refused q) t rest = at-once e es f q r a t h
 
-pub stops-at-edge : StopsAtEdge
-stops-at-edge frames dom edges n m r h = stops frames dom edges (cleared n m) r refl h
+pub refused-holds : RefusedHolds
+unfolding filledInto
+refused-holds frames dom edges n m r h = go (f .outcome) refl
+  where
+    f : Filling
+    f = placedAll frames dom edges (cleared n m)
+
+    go : (o : Outcome) → f .outcome ≡ o → Stopped frames dom edges n m r ⊎ Conflicting frames dom edges n m r
+    go accepted a =
+        let same = on conflicts f a in
+        inr
+        (record {
+          placed-all = a;
+          conflict = sym (ap (λ (g : Filling). g .outcome) same) ∙ h;
+          held = λ s. ap (mapOf s) same ∙ conflicts-held s f;
+        })
+    go (refused q) e =
+        let same = off conflicts f q e in
+        let s = stops frames dom edges (cleared n m) r refl (sym (ap (λ (g : Filling). g .outcome) same) ∙ h) in
+        inl
+        (record {
+          before = s .before;
+          failing = s .failing;
+          after = s .after;
+          split = s .split;
+          placed-before = s .placed-before;
+          fails = s .fails;
+          held = λ u. ap (mapOf u) same ∙ s .held u;
+        })

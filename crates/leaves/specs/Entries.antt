@@ -1,11 +1,12 @@
 -- What edges grant: the entries of the filling, by the last edge into each frame; and where a refused filling stops.
 use Prim.Native.Nat.{ℕ}
 use mathlib.Core.List.{List, _∷_, _++_}
+use mathlib.Core.Logic.{_⊎_}
 use mathlib.Core.Path.{_≡_}
 use lib.ListN.{getD}
 use Rattle.edge.specs.declared.Edge.{Edge}
 use Rattle.exact.specs.Exact.{expected, exactRows}
-use Rattle.filling.specs.Filling.{Filling, filling, mapOf, placed, placedAll, cleared, filledInto, filled}
+use Rattle.filling.specs.Filling.{mapOf, placed, placedAll, conflicts, cleared, filledInto, filled}
 use Rattle.p2m.specs.declared.Span.{Span}
 use Rattle.refusal.specs.Table.{Row, accepted, refused, first}
 
@@ -32,18 +33,24 @@ FilledExact =
     filled frames dom edges base sup .outcome ≡ accepted →
     (s : Span) → first (exactRows frames dom s edges (mapOf s (filled frames dom edges base sup))) ≡ accepted
 
--- 15 and 16: an edge that is refused after all before it were placed, whose entries both maps hold
-pub record Stopped (frames : List (List ℕ)) (dom : ℕ) (edges : List Edge) (f : Filling) (r : Row) : Type 0 where
+-- on 15 or 16 the maps hold the edges before the failing one
+pub record Stopped (frames : List (List ℕ)) (dom : ℕ) (edges : List Edge) (n m : ℕ) (r : Row) : Type 0 where
   pub before : List Edge
   pub failing : Edge
   pub after : List Edge
   pub split : edges ≡ before ++ failing ∷ after
-  pub placed-before : placedAll frames dom before f .outcome ≡ accepted
-  pub fails : placed frames dom (placedAll frames dom before f) failing .outcome ≡ refused r
-  pub base-held : placedAll frames dom edges f .base ≡ placedAll frames dom before f .base
-  pub sup-held : placedAll frames dom edges f .sup ≡ placedAll frames dom before f .sup
+  pub placed-before : placedAll frames dom before (cleared n m) .outcome ≡ accepted
+  pub fails : placed frames dom (placedAll frames dom before (cleared n m)) failing .outcome ≡ refused r
+  pub held : (s : Span) → mapOf s (filledInto frames dom edges n m) ≡ mapOf s (placedAll frames dom before (cleared n m))
 
-abbrev pub StopsAtEdge : Type 0
-StopsAtEdge =
+-- on 17 all edges
+pub record Conflicting (frames : List (List ℕ)) (dom : ℕ) (edges : List Edge) (n m : ℕ) (r : Row) : Type 0 where
+  pub placed-all : placedAll frames dom edges (cleared n m) .outcome ≡ accepted
+  pub conflict : conflicts (placedAll frames dom edges (cleared n m)) .outcome ≡ refused r
+  pub held : (s : Span) → mapOf s (filledInto frames dom edges n m) ≡ mapOf s (placedAll frames dom edges (cleared n m))
+
+abbrev pub RefusedHolds : Type 0
+RefusedHolds =
     (frames : List (List ℕ)) (dom : ℕ) (edges : List Edge) (n m : ℕ) (r : Row) →
-    placedAll frames dom edges (cleared n m) .outcome ≡ refused r → Stopped frames dom edges (cleared n m) r
+    filledInto frames dom edges n m .outcome ≡ refused r →
+    Stopped frames dom edges n m r ⊎ Conflicting frames dom edges n m r

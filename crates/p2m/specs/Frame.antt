@@ -64,9 +64,13 @@ spanOfKind = named spanKind (Base ∷ Super ∷ []) Leaves Unsupported
 abbrev pub ownerNamed : ℕ → Owner
 ownerNamed n = pick (leb n 65535) (Domain n) Nobody
 
+-- the owner number of what has no owner
+abbrev pub nobody : ℕ
+nobody = 65536
+
 -- a frame is a row of owner number and kind; one past the list has no owner and is no page table
 abbrev pub noFrame : List ℕ
-noFrame = 65536 ∷ 0 ∷ []
+noFrame = nobody ∷ 0 ∷ []
 
 abbrev pub frameAt : List (List ℕ) → ℕ → List ℕ
 frameAt frames m = getD frames m noFrame
