@@ -60,6 +60,7 @@ fn reached(dom: u16, mfn: u32, entry: u8, frames: &[[u32; 2]], grants: &[[u32; 4
     if granted(grants, owner, dom, mfn, entry == Perm::Rw.code()) {
         return Verdict::Accepted;
     }
+    // Where reading is granted, the entry was for writing.
     if granted(grants, owner, dom, mfn, false) {
         return Verdict::Refused(Refusal::WriteEscalation {
             dom: dom as u64,

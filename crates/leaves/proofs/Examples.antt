@@ -20,6 +20,7 @@ examples =
       row15 = refl;
       row16 = refl;
       row17 = refl;
+      smallest-first = refl;
       skipped = refl;
       later = refl;
       row23 = refl;

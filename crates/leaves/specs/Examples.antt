@@ -12,9 +12,9 @@ use Rattle.p2m.specs.declared.Span.{Span}
 use Rattle.p2m.specs.declared.Span.the-variants.{Base, Super}
 use Rattle.refusal.specs.Table.{row, Outcome, accepted, refused, first}
 
--- frames: 0 is nobody's, 1 domain 7's; 2, 3 and 4 are page tables of domain 3, by their kinds
+-- frames: 0 is domain 7's, 1 owned by nobody; 2, 3 and 4 are page tables of domain 3, by their kinds
 abbrev pub frames : List (List ℕ)
-frames = (65536 ∷ 1 ∷ []) ∷ (7 ∷ 1 ∷ []) ∷ (3 ∷ 2 ∷ []) ∷ (3 ∷ 3 ∷ []) ∷ (3 ∷ 4 ∷ []) ∷ []
+frames = (7 ∷ 1 ∷ []) ∷ (65536 ∷ 1 ∷ []) ∷ (3 ∷ 2 ∷ []) ∷ (3 ∷ 3 ∷ []) ∷ (3 ∷ 4 ∷ []) ∷ []
 
 -- an edge of a parent, slot and child: writable, leaf, execute
 abbrev pub edge : ℕ → ℕ → ℕ → ℕ → ℕ → ℕ → List ℕ
@@ -48,18 +48,21 @@ pub record Examples : Type 0 where
   pub row16 :
       fill (plain 2 512 ∷ []) (replicate 512 0) [] ≡ filling (replicate 512 0) [] (refused (row 16 (512 ∷ 512 ∷ [])))
   pub row17 :
+      fill (plain 2 1 ∷ plain 3 1 ∷ []) (0 ∷ 0 ∷ []) (0 ∷ 0 ∷ [])
+      ≡ filling (0 ∷ 1 ∷ []) (0 ∷ 1 ∷ []) (refused (row 17 (1 ∷ [])))
+  pub smallest-first :
       fill (plain 2 1 ∷ plain 3 1 ∷ plain 2 0 ∷ plain 3 0 ∷ []) (0 ∷ 0 ∷ []) (0 ∷ 0 ∷ [])
       ≡ filling (1 ∷ 1 ∷ []) (1 ∷ 1 ∷ []) (refused (row 17 (0 ∷ [])))
-  -- skipped: no leaf, parent 1 another's, parent 5 past the list
+  -- no leaf; parent 0 another's, 1 nobody's, 5 past the list
   pub skipped :
-      fill (edge 4 0 0 1 0 0 ∷ plain 1 0 ∷ plain 5 0 ∷ []) (9 ∷ []) [] ≡ filling (0 ∷ []) [] accepted
+      fill (edge 4 0 0 1 0 0 ∷ plain 0 0 ∷ plain 1 0 ∷ plain 5 0 ∷ []) (9 ∷ []) [] ≡ filling (0 ∷ []) [] accepted
   -- a later edge overwrites, whatever its slot
   pub later : fill (edge 2 0 0 1 1 0 ∷ edge 2 9 0 0 1 0 ∷ []) (0 ∷ []) [] ≡ filling (1 ∷ []) [] accepted
-  pub row23 : authorize [] (1 ∷ []) ≡ refused (row 23 (3 ∷ 0 ∷ 65536 ∷ 1 ∷ []))
-  pub row23-foreign : authorize ((7 ∷ 2 ∷ 1 ∷ 1 ∷ []) ∷ []) (0 ∷ 3 ∷ []) ≡ refused (row 23 (3 ∷ 1 ∷ 7 ∷ 3 ∷ []))
-  pub row24 : authorize ((7 ∷ 3 ∷ 1 ∷ 0 ∷ []) ∷ []) (0 ∷ 2 ∷ []) ≡ refused (row 24 (3 ∷ 1 ∷ 7 ∷ []))
+  pub row23 : authorize [] (0 ∷ 1 ∷ []) ≡ refused (row 23 (3 ∷ 1 ∷ 65536 ∷ 1 ∷ []))
+  pub row23-foreign : authorize ((7 ∷ 2 ∷ 0 ∷ 1 ∷ []) ∷ []) (3 ∷ []) ≡ refused (row 23 (3 ∷ 0 ∷ 7 ∷ 3 ∷ []))
+  pub row24 : authorize ((7 ∷ 3 ∷ 0 ∷ 0 ∷ []) ∷ []) (2 ∷ []) ≡ refused (row 24 (3 ∷ 0 ∷ 7 ∷ []))
   -- a grant for writing covers reading; frames 2 to 4 are the domain's own
-  pub authorized : authorize ((7 ∷ 3 ∷ 1 ∷ 1 ∷ []) ∷ []) (0 ∷ 1 ∷ 2 ∷ 3 ∷ 2 ∷ []) ≡ accepted
+  pub authorized : authorize ((7 ∷ 3 ∷ 0 ∷ 1 ∷ []) ∷ []) (1 ∷ 0 ∷ 2 ∷ 3 ∷ 2 ∷ []) ≡ accepted
   pub row25 : exact Base (edge 2 0 0 1 1 0 ∷ []) (0 ∷ []) ≡ refused (row 25 (3 ∷ 0 ∷ 0 ∷ 2 ∷ []))
   -- the last edge of the span counts
   pub last-edge : exact Super (plain 3 0 ∷ edge 3 0 0 1 1 0 ∷ plain 2 0 ∷ []) (2 ∷ []) ≡ accepted
@@ -71,4 +74,4 @@ pub record Examples : Type 0 where
   -- `check_exact` passes over an edge that the filling refuses
   pub refused-yet-exact : exact Base (plain 4 0 ∷ []) (0 ∷ []) ≡ accepted
   -- a grant says nothing of execution
-  pub rx-by-reading : authorize ((7 ∷ 3 ∷ 1 ∷ 0 ∷ []) ∷ []) (0 ∷ 3 ∷ []) ≡ accepted
+  pub rx-by-reading : authorize ((7 ∷ 3 ∷ 0 ∷ 0 ∷ []) ∷ []) (3 ∷ []) ≡ accepted
