@@ -48,7 +48,7 @@ module _ (grants : List Grant) (dom m entry : ℕ) where
 
   pub nobody :
       nonzero entry ≡ true →
-      first (ownerRows grants dom m entry Nobody) ≡ refused (row 23 (dom ∷ m ∷ 65536 ∷ entry ∷ []))
+      first (ownerRows grants dom m entry Nobody) ≡ refused (row 23 (dom ∷ m ∷ 0 ∷ 0 ∷ entry ∷ []))
   unfolding first ownerRows
   nobody e = rw e
 
@@ -62,7 +62,7 @@ module _ (grants : List Grant) (dom m entry : ℕ) where
 
       pub denied :
           nonzero entry ≡ true → granted grants o dom m false ≡ false →
-          first (ownerRows grants dom m entry (Domain o)) ≡ refused (row 23 (dom ∷ m ∷ o ∷ entry ∷ []))
+          first (ownerRows grants dom m entry (Domain o)) ≡ refused (row 23 (dom ∷ m ∷ 1 ∷ o ∷ entry ∷ []))
       unfolding first ownerRows
       denied n g = rw (foreign, n, g)
 

@@ -6,7 +6,7 @@ use lib.Dec.{eqb}
 use Rattle.edge.specs.Grant.{covers}
 use Rattle.edge.specs.declared.Grant.{Grant}
 use Rattle.fields.specs.Numbers.{nonzero}
-use Rattle.p2m.specs.Frame.{nobody, ownerOf}
+use Rattle.p2m.specs.Frame.{ownerOf}
 use Rattle.p2m.specs.declared.Owner.{Owner}
 use Rattle.p2m.specs.declared.Owner.the-variants.{Domain, Nobody}
 use Rattle.perm.specs.Perm.{permCode}
@@ -24,9 +24,14 @@ abbrev pub reaches : List Grant → ℕ → ℕ → Bool → Owner → Bool
 reaches grants dom m writes (Domain owner) = eqb owner dom || granted grants owner dom m writes
 reaches grants dom m writes Nobody = false
 
+-- an owner that may be none, as it is carried: 1 and its number, or 0 and 0
+abbrev pub owned : Owner → ℕ
+owned (Domain owner) = 1
+owned Nobody = 0
+
 abbrev pub ownerNumber : Owner → ℕ
 ownerNumber (Domain owner) = owner
-ownerNumber Nobody = nobody
+ownerNumber Nobody = 0
 
 -- the entry lets the domain write
 abbrev pub writes : ℕ → Bool
@@ -35,7 +40,8 @@ writes entry = eqb entry (permCode Rw)
 -- row 23: a mapped frame that the domain may not reach
 abbrev pub row23 : List Grant → ℕ → ℕ → ℕ → Owner → List Row
 row23 grants dom m entry owner =
-    refuseIf (nonzero entry && not (reaches grants dom m false owner)) 23 (dom ∷ m ∷ ownerNumber owner ∷ entry ∷ [])
+    refuseIf (nonzero entry && not (reaches grants dom m false owner)) 23
+    (dom ∷ m ∷ owned owner ∷ ownerNumber owner ∷ entry ∷ [])
 
 -- row 24: a frame mapped for writing that the domain may reach for reading alone
 abbrev pub row24 : List Grant → ℕ → ℕ → ℕ → Owner → List Row

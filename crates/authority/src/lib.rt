@@ -55,7 +55,7 @@ fn reached(dom: u16, mfn: u32, entry: u8, frames: &[[u32; 2]], grants: &[[u32; 4
         return Verdict::Accepted;
     }
     let Owner::Domain(owner) = p2m::owner_of(frames, mfn) else {
-        return unauthorized(dom, mfn, 65536, entry);
+        return unauthorized(dom, mfn, 0, 0, entry);
     };
     if granted(grants, owner, dom, mfn, entry == Perm::Rw.code()) {
         return Verdict::Accepted;
@@ -68,15 +68,16 @@ fn reached(dom: u16, mfn: u32, entry: u8, frames: &[[u32; 2]], grants: &[[u32; 4
             owner: owner as u64,
         });
     }
-    unauthorized(dom, mfn, owner as u32, entry)
+    unauthorized(dom, mfn, 1, owner, entry)
 }
 
-fn unauthorized(dom: u16, mfn: u32, owner: u32, entry: u8) -> Verdict
-    ensures { λ r. ⌜ outcomeOf r ≡ refused (row 23 (dom ∷ mfn ∷ owner ∷ entry ∷ [])) ⌝ }
+fn unauthorized(dom: u16, mfn: u32, owned: u8, owner: u16, entry: u8) -> Verdict
+    ensures { λ r. ⌜ outcomeOf r ≡ refused (row 23 (dom ∷ mfn ∷ owned ∷ owner ∷ entry ∷ [])) ⌝ }
 {
     Verdict::Refused(Refusal::UnauthorizedMapping {
         dom: dom as u64,
         mfn: mfn as u64,
+        owned: owned as u64,
         owner: owner as u64,
         perm: entry as u64,
     })

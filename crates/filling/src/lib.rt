@@ -70,7 +70,7 @@ pub fn no_conflict(base: &[u8], sup: &[u8]) -> Verdict
     }
     for m in 0..base.len() {
         if base[m] != 0 {
-            if entry_at(sup, m) != 0 {
+            if lent::entry_at(sup, m) != 0 {
                 return Verdict::Refused(Refusal::SpanConflict { mfn: m as u64 });
             }
         }
@@ -108,14 +108,4 @@ fn lesser(a: u8, b: u8) -> u8
         return a;
     }
     b
-}
-
-// The entry of a frame, 0 past the map.
-fn entry_at(map: &[u8], m: usize) -> u8
-    ensures { λ r. ⌜ r ≡ getD (now (map .entry)) m 0 ⌝ }
-{
-    if map.len() <= m {
-        return 0;
-    }
-    map[m]
 }

@@ -1,7 +1,7 @@
 -- The layout's fields as numbers, and its tables.
-use Prim.Native.Nat.{ℕ}
+use Prim.Native.Nat.{ℕ, _-_}
 use mathlib.Core.List.{List, [], _∷_}
-use lib.Dec.{eqb}
+use lib.Dec.{eqb, ltb}
 use lib.ListN.{getD}
 use Rattle.fields.specs.Named.{pick}
 use Rattle.fields.specs.Numbers.{nonzero}
@@ -14,7 +14,7 @@ use Rattle.layout.specs.declared.Table.{Table}
 abbrev pub imageOf : ℕ → ℕ → GuestImage
 imageOf present pa = pick (eqb present 0) Absent (At pa)
 
--- fields 01 to 10, and whether there is an image
+-- fields 01 to 10, with whether there is an image just before the image
 unfoldable pub layoutOf : List ℕ → Layout
 layoutOf x =
     record {
@@ -24,17 +24,21 @@ layoutOf x =
       «l3_data_pa» = getD x 3 0;
       «l2_sup_pa» = getD x 4 0;
       «l2_dev_pa» = getD x 5 0;
-      «guest_image_pa» = imageOf (getD x 16 0) (getD x 6 0);
-      «data_ipa_base» = getD x 7 0;
-      «data_pa_base» = getD x 8 0;
-      «frame_size» = getD x 9 0;
-      «sup_ipa_base» = getD x 10 0;
-      «sup_pa_base» = getD x 11 0;
-      «device_base» = getD x 12 0;
-      «device_len» = getD x 13 0;
-      «sup_wx_exempt» = nonzero (getD x 14 0);
-      «sup_frames» = getD x 15 0;
+      «guest_image_pa» = imageOf (getD x 6 0) (getD x 7 0);
+      «data_ipa_base» = getD x 8 0;
+      «data_pa_base» = getD x 9 0;
+      «frame_size» = getD x 10 0;
+      «sup_ipa_base» = getD x 11 0;
+      «sup_pa_base» = getD x 12 0;
+      «device_base» = getD x 13 0;
+      «device_len» = getD x 14 0;
+      «sup_wx_exempt» = nonzero (getD x 15 0);
+      «sup_frames» = getD x 16 0;
     }
+
+-- where field n, 1 to 10, stands in that list
+abbrev pub fieldAt : ℕ → ℕ
+fieldAt n = pick (ltb n 7) (n - 1) n
 
 abbrev pub tableAt : ℕ → ℕ → Table
 tableAt n pa = record { code = n; pa = pa }

@@ -32,6 +32,13 @@ deviceWindow l = window 4 (ltb 0 (l .«device_len»)) (l .«device_base») (l .�
 abbrev pub windowsOf : Layout → List Window
 windowsOf l = imageWindow (l .«guest_image_pa») ∷ dataWindow l ∷ superWindow l ∷ deviceWindow l ∷ []
 
+-- the level 1 and the level 2 entry of an address
+abbrev pub l1Slot : ℕ → ℕ
+l1Slot x = x / l1Span % entries
+
+abbrev pub l2Slot : ℕ → ℕ
+l2Slot x = x / block % entries
+
 -- the level 1 entry of a window
 abbrev pub slot : Window → ℕ
-slot w = w .ipa / l1Span % entries
+slot w = l1Slot (w .ipa)

@@ -3,7 +3,7 @@ ghost use Prim.Native.Nat.{_<_};
 ghost use mathlib.Core.Path.{_≡_};
 ghost use Rattle.layout.specs.Check.{check, checksOf};
 ghost use Rattle.layout.specs.Layout.{layoutOf, imageOf, tablesOf};
-ghost use Rattle.layout.specs.Window.{imageWindow, dataWindow, deviceWindow, slot};
+ghost use Rattle.layout.specs.Window.{imageWindow, dataWindow, deviceWindow, l1Slot, l2Slot, slot};
 
 // The address of the guest image, to which it is mapped itself; absent where a guest's code lies in its own memory.
 pub enum GuestImage {
@@ -82,11 +82,11 @@ impl Layout {
     // The fields, and whether there is an image.
     pub const NUMBERS: usize = 17;
 
-    // The layout of board code's numbers: the fields in their order, and last whether there is an image.
+    // The layout of board code's numbers: the fields in their order, with whether there is an image just before the image.
     pub fn of(x: &[u64; Self::NUMBERS]) -> Self
         ensures { λ r. ⌜ r ≡ layoutOf (now (x .entry)) ⌝ }
     {
-        let guest_image_pa = GuestImage::of(x[16], x[6]);
+        let guest_image_pa = GuestImage::of(x[6], x[7]);
         Self {
             l1_pa: x[0],
             l2_code_pa: x[1],
@@ -95,15 +95,15 @@ impl Layout {
             l2_sup_pa: x[4],
             l2_dev_pa: x[5],
             guest_image_pa,
-            data_ipa_base: x[7],
-            data_pa_base: x[8],
-            frame_size: x[9],
-            sup_ipa_base: x[10],
-            sup_pa_base: x[11],
-            device_base: x[12],
-            device_len: x[13],
-            sup_wx_exempt: x[14] != 0,
-            sup_frames: x[15],
+            data_ipa_base: x[8],
+            data_pa_base: x[9],
+            frame_size: x[10],
+            sup_ipa_base: x[11],
+            sup_pa_base: x[12],
+            device_base: x[13],
+            device_len: x[14],
+            sup_wx_exempt: x[15] != 0,
+            sup_frames: x[16],
         }
     }
 
@@ -153,6 +153,20 @@ impl Layout {
             Check::of(5, image.present, image.ipa, Self::BLOCK_SIZE),
             Check::of(6, device.present, device.ipa, Self::BLOCK_SIZE),
         ]
+    }
+
+    // The level 1 entry of an address.
+    pub fn l1_index(x: u64) -> u64
+        ensures { λ r. ⌜ r ≡ l1Slot x ⌝ }
+    {
+        x / Self::L1_ENTRY_SIZE % 512
+    }
+
+    // The level 2 entry of an address.
+    pub fn l2_index(x: u64) -> u64
+        ensures { λ r. ⌜ r ≡ l2Slot x ⌝ }
+    {
+        x / Self::BLOCK_SIZE % 512
     }
 
     pub fn data_window(self) -> Window
@@ -218,7 +232,7 @@ impl Window {
     pub fn l1_index(self) -> u64
         ensures { λ r. ⌜ r ≡ slot self ⌝ }
     {
-        self.ipa / Layout::L1_ENTRY_SIZE % 512
+        Layout::l1_index(self.ipa)
     }
 }
 

@@ -58,8 +58,8 @@ pub record Examples : Type 0 where
       fill (edge 4 0 0 1 0 0 ∷ plain 0 0 ∷ plain 1 0 ∷ plain 5 0 ∷ []) (9 ∷ []) [] ≡ filling (0 ∷ []) [] accepted
   -- a later edge overwrites, whatever its slot
   pub later : fill (edge 2 0 0 1 1 0 ∷ edge 2 9 0 0 1 0 ∷ []) (0 ∷ []) [] ≡ filling (1 ∷ []) [] accepted
-  pub row23 : authorize [] (0 ∷ 1 ∷ []) ≡ refused (row 23 (3 ∷ 1 ∷ 65536 ∷ 1 ∷ []))
-  pub row23-foreign : authorize ((7 ∷ 2 ∷ 0 ∷ 1 ∷ []) ∷ []) (3 ∷ []) ≡ refused (row 23 (3 ∷ 0 ∷ 7 ∷ 3 ∷ []))
+  pub row23 : authorize [] (0 ∷ 1 ∷ []) ≡ refused (row 23 (3 ∷ 1 ∷ 0 ∷ 0 ∷ 1 ∷ []))
+  pub row23-foreign : authorize ((7 ∷ 2 ∷ 0 ∷ 1 ∷ []) ∷ []) (3 ∷ []) ≡ refused (row 23 (3 ∷ 0 ∷ 1 ∷ 7 ∷ 3 ∷ []))
   pub row24 : authorize ((7 ∷ 3 ∷ 0 ∷ 0 ∷ []) ∷ []) (2 ∷ []) ≡ refused (row 24 (3 ∷ 0 ∷ 7 ∷ []))
   -- a grant for writing covers reading; frames 2 to 4 are the domain's own
   pub authorized : authorize ((7 ∷ 3 ∷ 0 ∷ 1 ∷ []) ∷ []) (1 ∷ 0 ∷ 2 ∷ 3 ∷ 2 ∷ []) ≡ accepted

@@ -95,3 +95,13 @@ pub fn maps(base: &[u8], sup: &[u8]) -> Verdict
     };
     map_codes(2, sup)
 }
+
+// The entry of a frame, 0 past the map.
+pub fn entry_at(map: &[u8], m: usize) -> u8
+    ensures { λ r. ⌜ r ≡ getD (now (map .entry)) m 0 ⌝ }
+{
+    if map.len() <= m {
+        return 0;
+    }
+    map[m]
+}

@@ -26,7 +26,7 @@ rowOf (SuperUnbacked position) = row 14 (position ∷ [])
 rowOf (UnsupportedSpan parent) = row 15 (parent ∷ [])
 rowOf (OutOfRange mfn capacity) = row 16 (mfn ∷ capacity ∷ [])
 rowOf (SpanConflict mfn) = row 17 (mfn ∷ [])
-rowOf (UnauthorizedMapping dom mfn owner perm) = row 23 (dom ∷ mfn ∷ owner ∷ perm ∷ [])
+rowOf (UnauthorizedMapping dom mfn owned owner perm) = row 23 (dom ∷ mfn ∷ owned ∷ owner ∷ perm ∷ [])
 rowOf (WriteEscalation dom mfn owner) = row 24 (dom ∷ mfn ∷ owner ∷ [])
 rowOf (Inexact dom mfn mapped expected) = row 25 (dom ∷ mfn ∷ mapped ∷ expected ∷ [])
 
@@ -34,10 +34,10 @@ abbrev pub outcomeOf : Verdict → Outcome
 outcomeOf Accepted = accepted
 outcomeOf (Refused r) = refused (rowOf r)
 
--- an outcome as eight numbers: the row's, 0 where accepted, then the values and zeros
+-- an outcome as nine numbers: the row's, 0 where accepted, then eight for the values, zeros after them
 abbrev pub rowWords : Row → List ℕ
-rowWords r = eight (r .number ∷ r .carried)
+rowWords r = r .number ∷ eight (r .carried)
 
 abbrev pub outcomeWords : Outcome → List ℕ
-outcomeWords accepted = eight []
+outcomeWords accepted = 0 ∷ eight []
 outcomeWords (refused r) = rowWords r

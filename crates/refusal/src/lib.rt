@@ -3,8 +3,8 @@ ghost use mathlib.Core.Path.{_≡_};
 ghost use Rattle.refusal.specs.Outcome.{outcomeOf, outcomeWords, rowWords, rowOf};
 
 // Rows 1 to 17 and 23 to 25, by the Rust's names where it has them, with the values that a refusal carries. Names are document 01's
-// codes: maps, windows and tables, and in `WindowUnaligned` row 6's checks. An owner is an owner number, 65,536 where there is none; a
-// permission is an entry of a map.
+// codes: maps, windows and tables, and in `WindowUnaligned` row 6's checks. `owned` is 1 where there is an owner, and 0, as is the owner,
+// where there is none; a permission is an entry of a map.
 pub enum Refusal {
     ArenaLength,
     MapLength,
@@ -63,6 +63,7 @@ pub enum Refusal {
     UnauthorizedMapping {
         dom: u64,
         mfn: u64,
+        owned: u64,
         owner: u64,
         perm: u64,
     },
@@ -86,11 +87,11 @@ pub enum Verdict {
 
 impl Verdict {
     // The number, 0 where accepted, and the carried values: for callers that have no enums.
-    pub fn words(self) -> [u64; 8]
+    pub fn words(self) -> [u64; 9]
         ensures { λ r. ⌜ r ≡ outcomeWords (outcomeOf self) ⌝ }
     {
         match self {
-            Verdict::Accepted => [0; 8],
+            Verdict::Accepted => [0; 9],
             Verdict::Refused(refusal) => refusal.words(),
         }
     }
@@ -98,44 +99,45 @@ impl Verdict {
 
 impl Refusal {
     // The number and the carried values.
-    pub fn words(self) -> [u64; 8]
+    pub fn words(self) -> [u64; 9]
         ensures { λ r. ⌜ r ≡ rowWords (rowOf self) ⌝ }
     {
         match self {
-            Refusal::ArenaLength => [1, 0, 0, 0, 0, 0, 0, 0],
-            Refusal::MapLength => [2, 0, 0, 0, 0, 0, 0, 0],
-            Refusal::MapCode { map, position } => [3, map, position, 0, 0, 0, 0, 0],
-            Refusal::DeviceWindowUnaligned { base, len } => [4, base, len, 0, 0, 0, 0, 0],
-            Refusal::GranuleNotEmitted { frame_size } => [5, frame_size, 0, 0, 0, 0, 0, 0],
+            Refusal::ArenaLength => [1, 0, 0, 0, 0, 0, 0, 0, 0],
+            Refusal::MapLength => [2, 0, 0, 0, 0, 0, 0, 0, 0],
+            Refusal::MapCode { map, position } => [3, map, position, 0, 0, 0, 0, 0, 0],
+            Refusal::DeviceWindowUnaligned { base, len } => [4, base, len, 0, 0, 0, 0, 0, 0],
+            Refusal::GranuleNotEmitted { frame_size } => [5, frame_size, 0, 0, 0, 0, 0, 0, 0],
             Refusal::WindowUnaligned {
                 window,
                 base,
                 align,
-            } => [6, window, base, align, 0, 0, 0, 0],
-            Refusal::TableUnnameable { table, pa } => [7, table, pa, 0, 0, 0, 0, 0],
-            Refusal::SuperFramesUncountable { count } => [8, count, 0, 0, 0, 0, 0, 0],
-            Refusal::RegionCrossesL1 { l1_index, span } => [9, l1_index, span, 0, 0, 0, 0, 0],
-            Refusal::OutputPastLimit { window, base } => [10, window, base, 0, 0, 0, 0, 0],
-            Refusal::RegionsCollide { l1_index } => [11, l1_index, 0, 0, 0, 0, 0, 0],
-            Refusal::WindowsOverlap => [12, 0, 0, 0, 0, 0, 0, 0],
-            Refusal::TablesEqual { first, second } => [13, first, second, 0, 0, 0, 0, 0],
-            Refusal::SuperUnbacked { position } => [14, position, 0, 0, 0, 0, 0, 0],
-            Refusal::UnsupportedSpan { parent } => [15, parent, 0, 0, 0, 0, 0, 0],
-            Refusal::OutOfRange { mfn, capacity } => [16, mfn, capacity, 0, 0, 0, 0, 0],
-            Refusal::SpanConflict { mfn } => [17, mfn, 0, 0, 0, 0, 0, 0],
+            } => [6, window, base, align, 0, 0, 0, 0, 0],
+            Refusal::TableUnnameable { table, pa } => [7, table, pa, 0, 0, 0, 0, 0, 0],
+            Refusal::SuperFramesUncountable { count } => [8, count, 0, 0, 0, 0, 0, 0, 0],
+            Refusal::RegionCrossesL1 { l1_index, span } => [9, l1_index, span, 0, 0, 0, 0, 0, 0],
+            Refusal::OutputPastLimit { window, base } => [10, window, base, 0, 0, 0, 0, 0, 0],
+            Refusal::RegionsCollide { l1_index } => [11, l1_index, 0, 0, 0, 0, 0, 0, 0],
+            Refusal::WindowsOverlap => [12, 0, 0, 0, 0, 0, 0, 0, 0],
+            Refusal::TablesEqual { first, second } => [13, first, second, 0, 0, 0, 0, 0, 0],
+            Refusal::SuperUnbacked { position } => [14, position, 0, 0, 0, 0, 0, 0, 0],
+            Refusal::UnsupportedSpan { parent } => [15, parent, 0, 0, 0, 0, 0, 0, 0],
+            Refusal::OutOfRange { mfn, capacity } => [16, mfn, capacity, 0, 0, 0, 0, 0, 0],
+            Refusal::SpanConflict { mfn } => [17, mfn, 0, 0, 0, 0, 0, 0, 0],
             Refusal::UnauthorizedMapping {
                 dom,
                 mfn,
+                owned,
                 owner,
                 perm,
-            } => [23, dom, mfn, owner, perm, 0, 0, 0],
-            Refusal::WriteEscalation { dom, mfn, owner } => [24, dom, mfn, owner, 0, 0, 0, 0],
+            } => [23, dom, mfn, owned, owner, perm, 0, 0, 0],
+            Refusal::WriteEscalation { dom, mfn, owner } => [24, dom, mfn, owner, 0, 0, 0, 0, 0],
             Refusal::Inexact {
                 dom,
                 mfn,
                 mapped,
                 expected,
-            } => [25, dom, mfn, mapped, expected, 0, 0, 0],
+            } => [25, dom, mfn, mapped, expected, 0, 0, 0, 0],
         }
     }
 }

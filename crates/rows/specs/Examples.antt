@@ -3,7 +3,7 @@ use Prim.Native.Nat.{ℕ, _-_, _*_, _^_}
 use mathlib.Core.List.{List, [], _∷_}
 use mathlib.Core.Path.{_≡_}
 use lib.ListN.{replicate, set}
-use Rattle.layout.specs.Layout.{layoutOf}
+use Rattle.layout.specs.Layout.{layoutOf, fieldAt}
 use Rattle.layout.specs.Size.{block, outputLimit}
 use Rattle.refusal.specs.Table.{row, Outcome, accepted, refused, first}
 use Rattle.rows.specs.Rows.{arenaGuardRows, refusals}
@@ -18,6 +18,7 @@ sceneS =
     ∷ 0x4000_4000
     ∷ 0x4000_5000
     ∷ 0
+    ∷ 0
     ∷ 0x8000_0000
     ∷ 0x5000_0000
     ∷ 0x1000
@@ -27,12 +28,11 @@ sceneS =
     ∷ 0x20_0000
     ∷ 0
     ∷ 4
-    ∷ 0
     ∷ []
 
 -- S with another value in a field, by its number
 abbrev pub line : ℕ → ℕ → List ℕ → List ℕ
-line n v x = set x (n - 1) v
+line n v x = set x (fieldAt n) v
 
 abbrev pub baseS : List ℕ
 baseS = 0 ∷ 2 ∷ []

@@ -30,6 +30,7 @@ const fn absent(name: &'static str, op: u32) -> Function {
         boundary: || Box::new([0, 1, 3, u64::MAX].into_iter().map(one)),
         sweep: |scale| Box::new(random(Random(11), 1_000 * scale, Random::words)),
         answers: &[("nothing", |answer| *answer == NOTHING)],
+        least: 1,
         recorded: true,
     }
 }

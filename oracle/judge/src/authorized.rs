@@ -10,10 +10,9 @@ use given_s2::check::{check_authorized_with, Violation};
 use crate::authorized_examples::small_granted;
 use crate::authorized_inputs::granted;
 use crate::function::{Answer, Function, Input, Layer};
-use crate::inputs::{words, Words};
+use crate::inputs::{words, Outcome};
 use crate::layout::{row, ACCEPTED, LEAST};
 use crate::maps::{self, too_long};
-use crate::p2m::NOBODY;
 use crate::port_maps;
 use crate::records::{grants, system, Frame, Grant};
 use crate::{authorized_faults, grant_faults};
@@ -35,6 +34,7 @@ pub const LAYER: Layer<Granted> = Layer {
         boundary: || Box::new(small_granted()),
         sweep: |scale| Box::new(granted(scale)),
         answers: ANSWERS,
+        least: LEAST,
         recorded: false,
     }],
     faults: &[authorized_faults::FAULTS, grant_faults::FAULTS],
@@ -49,20 +49,19 @@ const ANSWERS: &[Answer] = &[
     ("row 24", row::<24>),
 ];
 
-pub fn nobodys(answer: &Words) -> bool {
-    answer[0] == 23 && answer[3] == NOBODY
+pub fn nobodys(answer: &[u64]) -> bool {
+    matches!(answer, [23, _, _, 0, ..])
 }
 
-pub fn anothers(answer: &Words) -> bool {
-    answer[0] == 23 && answer[3] < NOBODY
+pub fn anothers(answer: &[u64]) -> bool {
+    matches!(answer, [23, _, _, 1, ..])
 }
 
 impl Input for Granted {
     type Op = ();
-    type Reply = Words;
-    const LEAST: u64 = LEAST;
+    type Reply = Outcome;
 
-    fn port(&self, (): ()) -> Words {
+    fn port(&self, (): ()) -> Outcome {
         port_maps::authorized(self)
     }
 
@@ -71,14 +70,14 @@ impl Input for Granted {
     }
 }
 
-pub fn authorized(x: &Granted) -> Words {
+pub fn authorized(x: &Granted) -> Outcome {
     if too_long(&x.map) {
         return words([2]);
     }
     maps::row_3(1, &x.map).unwrap_or_else(|| original(x))
 }
 
-fn original(x: &Granted) -> Words {
+fn original(x: &Granted) -> Outcome {
     let system = system(&[], &x.frames);
     let grants = grants(&x.grants);
     let answer = check_authorized_with(
@@ -90,7 +89,7 @@ fn original(x: &Granted) -> Words {
     answer.map_or_else(refusal, |()| ACCEPTED)
 }
 
-fn refusal(violation: Violation) -> Words {
+fn refusal(violation: Violation) -> Outcome {
     match violation {
         Violation::UnauthorizedMapping {
             dom,
@@ -98,9 +97,10 @@ fn refusal(violation: Violation) -> Words {
             owner,
             perm,
         } => {
-            let owner = owner.map_or(NOBODY, u64::from);
+            // Whether there is an owner, and who.
+            let (owned, owner) = owner.map_or((0, 0), |owner| (1, owner.into()));
             let perm = maps::code(Some(perm));
-            words([23, dom.into(), mfn.into(), owner, perm.into()])
+            words([23, dom.into(), mfn.into(), owned, owner, perm.into()])
         }
         Violation::WriteEscalation { dom, mfn, owner } => {
             words([24, dom.into(), mfn.into(), owner.into()])

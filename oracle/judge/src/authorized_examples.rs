@@ -27,14 +27,17 @@ const EXAMPLES: &[Example<Granted>] = &[
     (&[3, 1, 511], |x| x.map[511] = 4),
     // Every byte is looked at before any owner.
     (&[3, 1, 5], |x| (x.map[4], x.map[5], x.map[6]) = (1, 4, 255)),
-    (&[23, 3, 1, 65_536, 2], |x| x.frames[1].owner = 65_536),
-    (&[23, 3, 4, 65_536, 3], |x| x.map[4] = 3),
-    (&[23, 3, 8, 65_536, 1], |x| x.map[8] = 1),
-    (&[23, 3, 511, 65_536, 1], |x| x.map[511] = 1),
-    (&[23, 0, 9, 65_536, 2], |x| {
+    (&[23, 3, 1, 0, 0, 2], |x| x.frames[1].owner = 65_536),
+    (&[23, 3, 4, 0, 0, 3], |x| x.map[4] = 3),
+    (&[23, 3, 8, 0, 0, 1], |x| x.map[8] = 1),
+    (&[23, 3, 511, 0, 0, 1], |x| x.map[511] = 1),
+    (&[23, 0, 9, 0, 0, 2], |x| {
         (x.dom, x.map[1], x.map[9]) = (0, 0, 2);
     }),
-    (&[23, 3, 2, 5, 2], |x| x.map[2] = 2),
+    (&[23, 3, 2, 1, 5, 2], |x| x.map[2] = 2),
+    (&[23, 3, 2, 1, 0, 1], |x| {
+        (x.map[2], x.frames[2].owner) = (1, 0)
+    }),
     (&[24, 3, 2, 5], |x| granted(x, 2, &[grant(3, 2, 0)])),
     (&[0], |x| granted(x, 2, &[grant(3, 2, 1 << 31)])),
     (&[0], |x| granted(x, 1, &[grant(3, 2, 1)])),
@@ -46,13 +49,13 @@ const EXAMPLES: &[Example<Granted>] = &[
         granted(x, 2, &[grant(4, 2, 1), grant(3, 2, 0), grant(3, 3, 1)]);
     }),
     // Grants that differ in one number, also above its low half.
-    (&[23, 3, 2, 5, 1], |x| {
+    (&[23, 3, 2, 1, 5, 1], |x| {
         granted(x, 1, &[grant(4, 2, 1), grant(3, 3, 1)]);
     }),
-    (&[23, 3, 2, 5, 1], |x| {
+    (&[23, 3, 2, 1, 5, 1], |x| {
         granted(x, 1, &[grant(65_536 + 3, 2, 1), grant(3, 65_536 + 2, 1)]);
     }),
-    (&[23, 3, 2, 5, 1], |x| {
+    (&[23, 3, 2, 1, 5, 1], |x| {
         let others = [3, 4, 65_536 + 5].map(|grantor| Grant {
             grantor,
             ..grant(3, 2, 1)
@@ -60,7 +63,7 @@ const EXAMPLES: &[Example<Granted>] = &[
         granted(x, 1, &others);
     }),
     // Nobody grants nothing.
-    (&[23, 3, 4, 65_536, 1], |x| {
+    (&[23, 3, 4, 0, 0, 1], |x| {
         let nobody = Grant {
             grantor: 65_536,
             ..grant(3, 4, 1)
@@ -68,10 +71,10 @@ const EXAMPLES: &[Example<Granted>] = &[
         (x.map[4], x.grants) = (1, vec![nobody]);
     }),
     // The lowest frame comes first.
-    (&[23, 3, 2, 5, 1], |x| {
+    (&[23, 3, 2, 1, 5, 1], |x| {
         (x.map[2], x.map[4], x.map[9]) = (1, 1, 1);
     }),
-    (&[23, 65_535, 3, 65_536, 1], |x| {
+    (&[23, 65_535, 3, 0, 0, 1], |x| {
         let owners = [65_535, 65_535, 65_534, 65_536];
         (x.dom, x.frames) = (65_535, owners.map(|owner| frame(owner, 0)).to_vec());
         x.map[..4].copy_from_slice(&[2, 2, 1, 1]);

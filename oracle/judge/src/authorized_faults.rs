@@ -1,9 +1,9 @@
 //! Slips of a port that checks maps against grants: in rows 2 and 3, in owners, and in what is
 //! refused.
 
-use crate::authorized::Granted;
+use crate::authorized::{anothers, nobodys, Granted};
 use crate::function::{with, Fault};
-use crate::inputs::{words, Words};
+use crate::inputs::{words, Outcome};
 use crate::layout::ACCEPTED;
 use crate::map_faults::{four_as_3, report_last};
 use crate::maps::{self, MAP_LEN};
@@ -64,7 +64,7 @@ pub const FAULTS: &[Fault<Granted>] = &[
         "authorized-nobody-skipped",
         "a frame of nobody may be mapped",
         |x, answer| {
-            *answer = without(x, |answer| answer[0] == 23 && answer[3] == NOBODY);
+            *answer = without(x, |answer| nobodys(answer));
         },
     ),
     fault(
@@ -94,7 +94,7 @@ pub const FAULTS: &[Fault<Granted>] = &[
             let lowest = own.filter(|own| refused(answer).is_none_or(|mfn| *own < mfn));
             if let Some(mfn) = lowest.filter(|_| ![2, 3].contains(&answer[0])) {
                 let dom = x.dom.into();
-                *answer = words([23, dom, mfn as u64, dom, x.map[mfn].into()]);
+                *answer = words([23, dom, mfn as u64, 1, dom, x.map[mfn].into()]);
             }
         },
     ),
@@ -116,7 +116,7 @@ pub const FAULTS: &[Fault<Granted>] = &[
         "a write under a grant for reading is reported as having no grant",
         |_, answer| {
             if let [24, dom, mfn, owner, ..] = *answer {
-                *answer = words([23, dom, mfn, owner, 2]);
+                *answer = words([23, dom, mfn, 1, owner, 2]);
             }
         },
     ),
@@ -124,8 +124,45 @@ pub const FAULTS: &[Fault<Granted>] = &[
         "authorized-row-23-as-24",
         "a write without any grant is reported as an escalation",
         |_, answer| {
-            if let [23, dom, mfn, owner @ 0..NOBODY, 2, ..] = *answer {
+            if let [23, dom, mfn, 1, owner, 2, ..] = *answer {
                 *answer = words([24, dom, mfn, owner]);
+            }
+        },
+    ),
+    fault(
+        "authorized-owner-without-flag",
+        "the owner is carried alone, 65,536 for nobody",
+        |_, answer| {
+            if let [23, dom, mfn, owned, owner, perm, ..] = *answer {
+                let owner = if owned == 0 { NOBODY } else { owner };
+                *answer = words([23, dom, mfn, owner, perm]);
+            }
+        },
+    ),
+    fault(
+        "authorized-nobody-by-number",
+        "nobody is carried as 65,536 behind the flag",
+        |_, answer| {
+            if nobodys(answer) {
+                answer[4] = NOBODY;
+            }
+        },
+    ),
+    fault(
+        "authorized-domain-0-as-nobody",
+        "domain 0 is carried as nobody",
+        |_, answer| {
+            if anothers(answer) && answer[4] == 0 {
+                answer[3] = 0;
+            }
+        },
+    ),
+    fault(
+        "authorized-row-24-with-flag",
+        "a flag is carried before the owner that row 24 always has",
+        |_, answer| {
+            if let [24, dom, mfn, owner, ..] = *answer {
+                *answer = words([24, dom, mfn, 1, owner]);
             }
         },
     ),
@@ -134,7 +171,7 @@ pub const FAULTS: &[Fault<Granted>] = &[
         "the last word of the answer is not written where the map is accepted",
         |_, answer| {
             if *answer == ACCEPTED {
-                answer[7] = UNWRITTEN;
+                answer[8] = UNWRITTEN;
             }
         },
     ),
@@ -143,7 +180,7 @@ pub const FAULTS: &[Fault<Granted>] = &[
 pub const fn fault(
     name: &'static str,
     slip: &'static str,
-    alter: fn(&Granted, &mut Words),
+    alter: fn(&Granted, &mut Outcome),
 ) -> Fault<Granted> {
     Fault {
         name,
@@ -154,12 +191,12 @@ pub const fn fault(
 }
 
 /// The frame that row 23 or 24 refuses.
-pub fn refused(answer: &Words) -> Option<usize> {
+pub fn refused(answer: &Outcome) -> Option<usize> {
     [23, 24].contains(&answer[0]).then_some(answer[2] as usize)
 }
 
 /// The port's answer after the entries that it refuses so are cleared.
-fn without(x: &Granted, so: fn(&Words) -> bool) -> Words {
+fn without(x: &Granted, so: fn(&Outcome) -> bool) -> Outcome {
     let mut x = x.clone();
     loop {
         let answer = port_maps::authorized(&x);

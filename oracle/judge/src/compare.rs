@@ -4,7 +4,7 @@ use std::fmt::{self, Display, Formatter};
 
 use crate::function::{
     faults, functions, Fault, Function, Input, Layer, Reply, FILLINGS, GRANTED, LAYOUTS, LINKED,
-    SCENES, WORDS,
+    SCENES, TEXTS, WORDS,
 };
 use crate::tally::Tally;
 
@@ -15,7 +15,8 @@ pub fn compare_all(scale: usize, fault: Option<&str>) -> Result<(), String> {
         + compare_layers(&SCENES, scale, fault)?
         + compare_layers(&FILLINGS, scale, fault)?
         + compare_layers(&GRANTED, scale, fault)?
-        + compare_layers(&LINKED, scale, fault)?;
+        + compare_layers(&LINKED, scale, fault)?
+        + compare_layers(&TEXTS, scale, fault)?;
     println!("{inputs} inputs compared, no difference");
     Ok(())
 }
@@ -34,7 +35,7 @@ fn compare_layers<I: Input>(
     for function in functions(layers) {
         let tally = compare(function, scale, fault).map_err(|found| found.to_string())?;
         println!("{tally}");
-        tally.complete(I::LEAST)?;
+        tally.complete(function.least)?;
         inputs += tally.inputs;
     }
     Ok(inputs)
@@ -58,8 +59,8 @@ pub fn compare<I: Input>(
             return Err(Box::new(Difference {
                 function: function.name,
                 input: input.shown(),
-                original: original.shown(),
-                port: port.shown(),
+                original: original.shown(&port),
+                port: port.shown(&original),
                 seeded: original == unaltered,
             }));
         }

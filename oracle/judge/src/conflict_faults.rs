@@ -12,7 +12,7 @@ pub const FAULTS: &[Fault<Filling>] = &[
         "a conflict is refused as soon as it is stored",
         |x, filled| {
             let mut prefixes = (0..x.edges.len()).map(|count| with(x, |x| x.edges.truncate(count)));
-            if let Some(early) = prefixes.find(|filled| filled.words[0] == 17) {
+            if let Some(early) = prefixes.find(|filled| filled.outcome[0] == 17) {
                 *filled = early;
             }
         },
@@ -21,8 +21,8 @@ pub const FAULTS: &[Fault<Filling>] = &[
         "fill-row-17-before-the-last-edge",
         "conflicts are looked for before the last edge is stored",
         |x, filled| {
-            if filled.words[0] == 17 {
-                filled.words = with(x, |x| _ = x.edges.pop()).words;
+            if filled.outcome[0] == 17 {
+                filled.outcome = with(x, |x| _ = x.edges.pop()).outcome;
             }
         },
     ),
@@ -32,8 +32,8 @@ pub const FAULTS: &[Fault<Filling>] = &[
         |_, filled| {
             let mut both = filled.base.iter().zip(&filled.sup);
             let last = both.rposition(|(base, sup)| *base != 0 && *sup != 0);
-            if let Some(last) = last.filter(|_| filled.words[0] == 17) {
-                filled.words[1] = last as u64;
+            if let Some(last) = last.filter(|_| filled.outcome[0] == 17) {
+                filled.outcome[1] = last as u64;
             }
         },
     ),
@@ -41,8 +41,8 @@ pub const FAULTS: &[Fault<Filling>] = &[
         "fill-row-17-not-tested",
         "a frame may be in both maps",
         |_, filled| {
-            if filled.words[0] == 17 {
-                filled.words = ACCEPTED;
+            if filled.outcome[0] == 17 {
+                filled.outcome = ACCEPTED;
             }
         },
     ),
@@ -51,8 +51,8 @@ pub const FAULTS: &[Fault<Filling>] = &[
         "the last frame that both maps have is not looked at",
         |x, filled| {
             let shared = x.base.len().min(x.sup.len()) as u64;
-            if filled.words[..2] == [17, shared.saturating_sub(1)] {
-                filled.words = ACCEPTED;
+            if filled.outcome[..2] == [17, shared.saturating_sub(1)] {
+                filled.outcome = ACCEPTED;
             }
         },
     ),
@@ -60,8 +60,8 @@ pub const FAULTS: &[Fault<Filling>] = &[
         "fill-row-17-takes-back",
         "the refused frame is taken out of the super map",
         |_, filled| {
-            if filled.words[0] == 17 {
-                set(&mut filled.sup, filled.words[1] as usize, 0);
+            if filled.outcome[0] == 17 {
+                set(&mut filled.sup, filled.outcome[1] as usize, 0);
             }
         },
     ),

@@ -35,6 +35,7 @@ const FUNCTIONS: &[Function] = &[
         boundary: || Box::new(perms([0, 1, 2, 3, 4, (1 << 32) + 1, u64::MAX].into_iter())),
         sweep: |scale| Box::new(perms(many_codes(scale))),
         answers: PERM_ANSWERS,
+        least: 1,
         recorded: true,
     },
     Function::of_code("memory type", MEMORY_TYPE, memory_type, MEMORY_TYPE_ANSWERS),
@@ -60,6 +61,7 @@ const fn of_nothing(name: &'static str, op: u32, original: fn(&Words) -> Words) 
         boundary: || Box::new([[0; 8], [u64::MAX; 8]].into_iter()),
         sweep: |scale| Box::new(random(Random(3), 1_000 * scale, Random::words)),
         answers: &[("eight words", |answer| !answer.contains(&0))],
+        least: 1,
         recorded: true,
     }
 }
@@ -78,6 +80,7 @@ const fn decoder(
         boundary: || Box::new(descriptor_boundary().map(one)),
         sweep: |scale| Box::new(descriptors(scale).map(one)),
         answers,
+        least: 1,
         recorded: true,
     }
 }

@@ -12,7 +12,7 @@ use given_s2::leafmap::Span;
 
 use crate::exact_inputs::{linked, small_linked};
 use crate::function::{Answer, Function, Input, Layer};
-use crate::inputs::{words, Words};
+use crate::inputs::{words, Outcome};
 use crate::layout::{row, ACCEPTED, LEAST};
 use crate::maps::{self, too_long};
 use crate::port_maps;
@@ -40,6 +40,7 @@ pub const LAYER: Layer<Linked> = Layer {
             boundary: || Box::new(small_linked(Span::Base)),
             sweep: |scale| Box::new(linked(Span::Base, scale)),
             answers: ANSWERS,
+            least: LEAST,
             recorded: false,
         },
         Function {
@@ -49,6 +50,7 @@ pub const LAYER: Layer<Linked> = Layer {
             boundary: || Box::new(small_linked(Span::Super)),
             sweep: |scale| Box::new(linked(Span::Super, scale)),
             answers: ANSWERS,
+            least: LEAST,
             recorded: false,
         },
     ],
@@ -64,10 +66,9 @@ const ANSWERS: &[Answer] = &[
 
 impl Input for Linked {
     type Op = ();
-    type Reply = Words;
-    const LEAST: u64 = LEAST;
+    type Reply = Outcome;
 
-    fn port(&self, (): ()) -> Words {
+    fn port(&self, (): ()) -> Outcome {
         port_maps::exact(self)
     }
 
@@ -101,14 +102,14 @@ impl Linked {
     }
 }
 
-pub fn exact(x: &Linked) -> Words {
+pub fn exact(x: &Linked) -> Outcome {
     if too_long(&x.map) {
         return words([2]);
     }
     maps::row_3(x.code(), &x.map).unwrap_or_else(|| original(x))
 }
 
-fn original(x: &Linked) -> Words {
+fn original(x: &Linked) -> Outcome {
     let hypervisor = Hypervisor {
         p2m: system(&x.edges, &x.frames),
         grant: grant::System(Vec::new()),
@@ -117,7 +118,7 @@ fn original(x: &Linked) -> Words {
     answer.map_or_else(refusal, |()| ACCEPTED)
 }
 
-fn refusal(violation: Violation) -> Words {
+fn refusal(violation: Violation) -> Outcome {
     match violation {
         Violation::Inexact {
             dom,

@@ -3,7 +3,7 @@
 
 use crate::exact::Linked;
 use crate::function::{with, Fault};
-use crate::inputs::Words;
+use crate::inputs::Outcome;
 use crate::layout::ACCEPTED;
 use crate::map_faults::{four_as_3, report_last};
 use crate::maps::{self, MAP_LEN};
@@ -153,7 +153,7 @@ pub const FAULTS: &[Fault<Linked>] = &[
         "the last word of the answer is not written where the map is accepted",
         |_, answer| {
             if *answer == ACCEPTED {
-                answer[7] = UNWRITTEN;
+                answer[8] = UNWRITTEN;
             }
         },
     ),
@@ -162,7 +162,7 @@ pub const FAULTS: &[Fault<Linked>] = &[
 pub const fn fault(
     name: &'static str,
     slip: &'static str,
-    alter: fn(&Linked, &mut Words),
+    alter: fn(&Linked, &mut Outcome),
 ) -> Fault<Linked> {
     Fault {
         name,
@@ -173,7 +173,7 @@ pub const fn fault(
 }
 
 /// The port's answer after the entries that it refuses so are set to what is due.
-fn without(x: &Linked, so: fn(&Words) -> bool) -> Words {
+fn without(x: &Linked, so: fn(&Outcome) -> bool) -> Outcome {
     let mut x = x.clone();
     loop {
         let answer = port_maps::exact(&x);

@@ -14,8 +14,8 @@ pub fn examples<I: Input>(
 ) -> impl Iterator<Item = I> {
     list.iter().map(move |(answer, change)| {
         let input = altered(unchanged(), change);
-        let words = *original(&input).words();
-        assert_eq!(words[..answer.len()], **answer, "{}", input.shown());
+        let reply = original(&input);
+        assert_eq!(reply.words()[..answer.len()], **answer, "{}", input.shown());
         input
     })
 }

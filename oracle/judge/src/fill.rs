@@ -11,7 +11,7 @@ use given_s2::leafmap::{leaf_map_from_edges, span_of_table, MapError, Maps, Perm
 use crate::fill_examples::small_fillings;
 use crate::fill_inputs::fillings;
 use crate::function::{Answer, Function, Input, Layer, Reply};
-use crate::inputs::{hex, words, Words};
+use crate::inputs::{hex, words, Outcome};
 use crate::layout::{row, ACCEPTED, LEAST};
 use crate::maps::{self, too_long};
 use crate::port_maps;
@@ -30,7 +30,7 @@ pub struct Filling {
 
 #[derive(Clone, PartialEq)]
 pub struct Filled {
-    pub words: Words,
+    pub outcome: Outcome,
     /// Both maps as they are after the call.
     pub base: Vec<u8>,
     pub sup: Vec<u8>,
@@ -44,6 +44,7 @@ pub const LAYER: Layer<Filling> = Layer {
         boundary: || Box::new(small_fillings()),
         sweep: |scale| Box::new(fillings(scale)),
         answers: ANSWERS,
+        least: LEAST,
         recorded: false,
     }],
     faults: &[misread::FILL, fill_faults::FAULTS, conflict_faults::FAULTS],
@@ -60,7 +61,6 @@ const ANSWERS: &[Answer] = &[
 impl Input for Filling {
     type Op = ();
     type Reply = Filled;
-    const LEAST: u64 = LEAST;
 
     fn port(&self, (): ()) -> Filled {
         port_maps::fill(self)
@@ -72,20 +72,20 @@ impl Input for Filling {
 }
 
 impl Reply for Filled {
-    fn words(&self) -> &Words {
-        &self.words
+    fn words(&self) -> &[u64] {
+        &self.outcome
     }
 
-    fn shown(&self) -> String {
+    fn shown(&self, _: &Self) -> String {
         let (base, sup) = (maps::shown(&self.base), maps::shown(&self.sup));
-        format!("{}, base {base}, super {sup}", hex(&self.words))
+        format!("{}, base {base}, super {sup}", hex(&self.outcome))
     }
 }
 
 pub fn fill(x: &Filling) -> Filled {
     if too_long(&x.base) || too_long(&x.sup) {
         return Filled {
-            words: words([2]),
+            outcome: words([2]),
             base: x.base.clone(),
             sup: x.sup.clone(),
         };
@@ -105,13 +105,13 @@ pub fn fill(x: &Filling) -> Filled {
         },
     );
     Filled {
-        words: answer.map_or_else(refusal, |()| ACCEPTED),
+        outcome: answer.map_or_else(refusal, |()| ACCEPTED),
         base: maps::bytes(&base),
         sup: maps::bytes(&sup),
     }
 }
 
-fn refusal(error: MapError) -> Words {
+fn refusal(error: MapError) -> Outcome {
     match error {
         MapError::UnsupportedSpan { parent } => words([15, parent.into()]),
         MapError::OutOfRange(past) => words([16, past.mfn.into(), past.capacity as u64]),

@@ -2,7 +2,7 @@
 
 use crate::fill::{Filled, Filling};
 use crate::function::{with, Fault};
-use crate::inputs::{words, Words};
+use crate::inputs::{words, Outcome};
 use crate::layout::ACCEPTED;
 use crate::map_inputs::set;
 use crate::maps::MAP_LEN;
@@ -16,7 +16,7 @@ pub const FAULTS: &[Fault<Filling>] = &[
         "fill-base-not-cleared",
         "an entry of the base map that no edge maps stays",
         |x, filled| {
-            if filled.words[0] != 2 {
+            if filled.outcome[0] != 2 {
                 keep(&x.base, &mut filled.base);
             }
         },
@@ -25,7 +25,7 @@ pub const FAULTS: &[Fault<Filling>] = &[
         "fill-super-not-cleared",
         "an entry of the super map that no edge maps stays",
         |x, filled| {
-            if filled.words[0] != 2 {
+            if filled.outcome[0] != 2 {
                 keep(&x.sup, &mut filled.sup);
             }
         },
@@ -34,7 +34,7 @@ pub const FAULTS: &[Fault<Filling>] = &[
         "fill-row-2-clears",
         "the maps are cleared before their lengths are tested",
         |_, filled| {
-            if filled.words[0] == 2 {
+            if filled.outcome[0] == 2 {
                 filled.base.fill(0);
                 filled.sup.fill(0);
             }
@@ -64,7 +64,7 @@ pub const FAULTS: &[Fault<Filling>] = &[
         "fill-first-edge-wins",
         "a later edge does not overwrite",
         |x, filled| {
-            if [0, 17].contains(&filled.words[0]) {
+            if [0, 17].contains(&filled.outcome[0]) {
                 *filled = with(x, |x| x.edges.reverse());
             }
         },
@@ -83,7 +83,7 @@ pub const FAULTS: &[Fault<Filling>] = &[
     fault(
         "fill-row-15-skipped",
         "an edge of a table without a span is skipped",
-        |x, filled| *filled = without(x, |words| words[0] == 15),
+        |x, filled| *filled = without(x, |answer| answer[0] == 15),
     ),
     fault(
         "fill-row-15-before-the-owner",
@@ -112,10 +112,10 @@ pub const FAULTS: &[Fault<Filling>] = &[
         "fill-row-15-after-row-16",
         "the child is tested against the base map before the kind",
         |x, filled| {
-            if filled.words[0] == 15 {
+            if filled.outcome[0] == 15 {
                 let child = x.edges[refused(x)].child;
                 if child as usize >= x.base.len() {
-                    filled.words = words([16, child.into(), x.base.len() as u64]);
+                    filled.outcome = words([16, child.into(), x.base.len() as u64]);
                 }
             }
         },
@@ -124,7 +124,7 @@ pub const FAULTS: &[Fault<Filling>] = &[
         "fill-row-15-stored",
         "an edge of a table without a span is stored in the base map",
         |x, filled| {
-            if filled.words[0] == 15 {
+            if filled.outcome[0] == 15 {
                 let edge = x.edges[refused(x)];
                 set(&mut filled.base, edge.child as usize, code(edge));
             }
@@ -134,27 +134,27 @@ pub const FAULTS: &[Fault<Filling>] = &[
         "fill-row-15-carries-the-child",
         "the child is carried in the place of the parent",
         |x, filled| {
-            if filled.words[0] == 15 {
-                filled.words[1] = x.edges[refused(x)].child.into();
+            if filled.outcome[0] == 15 {
+                filled.outcome[1] = x.edges[refused(x)].child.into();
             }
         },
     ),
     fault(
         "fill-row-16-skipped",
         "an edge whose child is past its map is skipped",
-        |x, filled| *filled = without(x, |words| words[0] == 16),
+        |x, filled| *filled = without(x, |answer| answer[0] == 16),
     ),
     fault(
         "fill-row-16-at-the-capacity",
         "a child just past its map is not refused",
-        |x, filled| *filled = without(x, |words| words[0] == 16 && words[1] == words[2]),
+        |x, filled| *filled = without(x, |answer| answer[0] == 16 && answer[1] == answer[2]),
     ),
     fault(
         "fill-row-16-other-capacity",
         "the length of the other map is carried",
         |x, filled| {
-            if filled.words[0] == 16 {
-                filled.words[2] = (x.base.len() + x.sup.len()) as u64 - filled.words[2];
+            if filled.outcome[0] == 16 {
+                filled.outcome[2] = (x.base.len() + x.sup.len()) as u64 - filled.outcome[2];
             }
         },
     ),
@@ -162,7 +162,7 @@ pub const FAULTS: &[Fault<Filling>] = &[
         "fill-stores-on",
         "edges after the refused one are stored too",
         |x, filled| {
-            if [15, 16].contains(&filled.words[0]) {
+            if [15, 16].contains(&filled.outcome[0]) {
                 let stored = with(x, |x| _ = x.edges.remove(refused(x)));
                 (filled.base, filled.sup) = (stored.base, stored.sup);
             }
@@ -172,7 +172,7 @@ pub const FAULTS: &[Fault<Filling>] = &[
         "fill-refused-clears",
         "the maps are cleared when an edge is refused",
         |_, filled| {
-            if [15, 16].contains(&filled.words[0]) {
+            if [15, 16].contains(&filled.outcome[0]) {
                 filled.base.fill(0);
                 filled.sup.fill(0);
             }
@@ -182,8 +182,8 @@ pub const FAULTS: &[Fault<Filling>] = &[
         "fill-word-unwritten",
         "the last word of the answer is not written where the edges are accepted",
         |_, filled| {
-            if filled.words == ACCEPTED {
-                filled.words[7] = UNWRITTEN;
+            if filled.outcome == ACCEPTED {
+                filled.outcome[8] = UNWRITTEN;
             }
         },
     ),
@@ -213,7 +213,7 @@ fn keep(before: &[u8], after: &mut [u8]) {
 /// The place of the edge that row 15 or 16 refuses.
 fn refused(x: &Filling) -> usize {
     let refuses = |place: &usize| {
-        let answer = with(x, |x| x.edges.truncate(place + 1)).words;
+        let answer = with(x, |x| x.edges.truncate(place + 1)).outcome;
         [15, 16].contains(&answer[0])
     };
     (0..x.edges.len())
@@ -222,11 +222,11 @@ fn refused(x: &Filling) -> usize {
 }
 
 /// The port's reply after the edges that it refuses so are left out.
-fn without(x: &Filling, so: fn(&Words) -> bool) -> Filled {
+fn without(x: &Filling, so: fn(&Outcome) -> bool) -> Filled {
     let mut x = x.clone();
     loop {
         let filled = port_maps::fill(&x);
-        if !so(&filled.words) {
+        if !so(&filled.outcome) {
             return filled;
         }
         x.edges.remove(refused(&x));

@@ -1,9 +1,10 @@
 //! What the comparison knows of a function, and the layers that the functions come from.
 
 use crate::authorized::{self, Granted};
+use crate::dump::{self, Text};
+use crate::encode::{self, Scene};
 use crate::exact::{self, Linked};
 use crate::fill::{self, Filling};
-use crate::guard::{self, Scene};
 use crate::inputs::{altered, few_codes, hex, many_codes, one, Inputs, Words};
 use crate::layout::{self, Fields};
 use crate::port;
@@ -15,8 +16,6 @@ pub trait Input: 'static {
     type Op: Copy + PartialEq + Sync;
     /// All that the function leaves behind.
     type Reply: Reply;
-    /// How many inputs of a comparison must have each kind of answer.
-    const LEAST: u64;
 
     /// The port's reply.
     fn port(&self, op: Self::Op) -> Self::Reply;
@@ -25,20 +24,21 @@ pub trait Input: 'static {
     fn shown(&self) -> String;
 }
 
-/// The eight words of an answer, with what a function stores besides.
+/// An answer, with what a function stores besides.
 pub trait Reply: Clone + PartialEq {
-    fn words(&self) -> &Words;
+    /// The words that tell of which kind the answer is.
+    fn words(&self) -> &[u64];
 
-    /// The reply as it is printed.
-    fn shown(&self) -> String;
+    /// The reply as it is printed beside one that differs.
+    fn shown(&self, other: &Self) -> String;
 }
 
-impl Reply for Words {
-    fn words(&self) -> &Words {
+impl<const N: usize> Reply for [u64; N] {
+    fn words(&self) -> &[u64] {
         self
     }
 
-    fn shown(&self) -> String {
+    fn shown(&self, _: &Self) -> String {
         hex(self)
     }
 }
@@ -46,7 +46,6 @@ impl Reply for Words {
 impl Input for Words {
     type Op = u32;
     type Reply = Words;
-    const LEAST: u64 = 1;
 
     fn port(&self, op: u32) -> Words {
         port::answer(op, self)
@@ -60,7 +59,7 @@ impl Input for Words {
 /// A function that the original and the port both have.
 pub struct Function<I: Input = Words> {
     pub name: &'static str,
-    /// For `probe`, its number.
+    /// For `probe`, its number; for `s2dump`, which lines it reads.
     pub op: I::Op,
     /// The reply that is due, the unchanged Rust's where it has one, in the words that the port
     /// writes.
@@ -69,14 +68,16 @@ pub struct Function<I: Input = Words> {
     pub boundary: fn() -> Inputs<I>,
     /// All other inputs, with the number of random ones multiplied as given.
     pub sweep: fn(usize) -> Inputs<I>,
-    /// The kinds of answer, each of which some input must bring about.
+    /// The kinds of answer.
     pub answers: &'static [Answer],
+    /// How many inputs of a comparison must have each kind of answer.
+    pub least: u64,
     /// Whether the answers are recorded.
     pub recorded: bool,
 }
 
 /// A kind of answer, and whether an answer is of that kind.
-pub type Answer = (&'static str, fn(&Words) -> bool);
+pub type Answer = (&'static str, fn(&[u64]) -> bool);
 
 /// A slip on the port's side that the comparison must notice.
 pub struct Fault<I: Input = Words> {
@@ -105,7 +106,7 @@ pub static WORDS: [Layer; 4] = [p2m::LAYER, desc::LAYER, regime::LAYER, absent::
 pub static LAYOUTS: [Layer<Fields>; 1] = [layout::LAYER];
 
 /// The functions of a layout with an arena and two maps.
-pub static SCENES: [Layer<Scene>; 1] = [guard::LAYER];
+pub static SCENES: [Layer<Scene>; 1] = [encode::LAYER];
 
 /// The functions that fill two maps from edges.
 pub static FILLINGS: [Layer<Filling>; 1] = [fill::LAYER];
@@ -115,6 +116,9 @@ pub static GRANTED: [Layer<Granted>; 1] = [authorized::LAYER];
 
 /// The functions that check a map against edges.
 pub static LINKED: [Layer<Linked>; 1] = [exact::LAYER];
+
+/// The programs that read a scene.
+pub static TEXTS: [Layer<Text>; 1] = [dump::LAYER];
 
 pub fn functions<I: Input>(
     layers: &'static [Layer<I>],
@@ -136,6 +140,7 @@ pub fn fault_names() -> impl Iterator<Item = &'static str> {
         .chain(names(&FILLINGS))
         .chain(names(&GRANTED))
         .chain(names(&LINKED))
+        .chain(names(&TEXTS))
 }
 
 fn names<I: Input>(layers: &'static [Layer<I>]) -> impl Iterator<Item = &'static str> {
@@ -157,6 +162,7 @@ impl Function {
             boundary: || Box::new(few_codes().map(one)),
             sweep: |scale| Box::new(many_codes(scale).map(one)),
             answers,
+            least: 1,
             recorded: true,
         }
     }

@@ -3,7 +3,7 @@
 use crate::authorized::Granted;
 use crate::authorized_faults::{fault, refused};
 use crate::function::{with, Fault};
-use crate::inputs::Words;
+use crate::inputs::Outcome;
 use crate::p2m::NOBODY;
 use crate::records::Grant;
 
@@ -103,7 +103,7 @@ pub const FAULTS: &[Fault<Granted>] = &[
 ];
 
 /// The port's answer to the map after a change of each grant.
-fn with_grants(x: &Granted, change: impl Fn(&Granted, &mut Grant)) -> Words {
+fn with_grants(x: &Granted, change: impl Fn(&Granted, &mut Grant)) -> Outcome {
     let change_all = |changed: &mut Granted| {
         changed.grants.iter_mut().for_each(|grant| change(x, grant));
     };

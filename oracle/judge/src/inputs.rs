@@ -1,7 +1,10 @@
 //! The words that both sides are asked about.
 
-/// The eight words of a call, and the eight of its answer.
+/// The eight words of a call of `probe`, and the eight of its answer.
 pub type Words = [u64; 8];
+
+/// The answer of any other call: the number of the row that refuses, 0 for none, and eight values.
+pub type Outcome = [u64; 9];
 
 /// The answer of a function that has none for its input.
 pub const NOTHING: Words = [0; 8];
@@ -9,7 +12,7 @@ pub const NOTHING: Words = [0; 8];
 pub type Inputs<I = Words> = Box<dyn Iterator<Item = I>>;
 
 /// Fills up with zeros: a word that is not used is zero.
-pub fn words<const N: usize>(given: [u64; N]) -> Words {
+pub fn words<const N: usize, const M: usize>(given: [u64; N]) -> [u64; M] {
     std::array::from_fn(|i| given.get(i).copied().unwrap_or(0))
 }
 

@@ -5,19 +5,20 @@
 
 use std::ops::Range;
 
-use hv_s2::arm64::{EncodingViolation, Layout};
+use given_s2::arm64::{EncodingViolation, Layout};
 
 use crate::function::{Answer, Function, Input, Layer};
-use crate::inputs::{hex, words, Words, NOTHING};
+use crate::inputs::{hex, words, Outcome};
 use crate::layout_faults::FAULTS;
 use crate::layout_inputs::{examples, layouts};
-use crate::port;
+use crate::port_layouts;
 use crate::undefined::defined;
 
-/// Document 01's fields 01 to 10 (hexadecimal), and whether there is an image.
+/// A layout in the order in which the port is handed it: document 01's sixteen fields, and just
+/// before the image's address whether there is an image.
 pub type Fields = [u64; 17];
 
-/// The places of the fields: document 01's numbers less one. The tables come first.
+/// The places of the fields. The tables come first.
 pub const TABLES: Range<usize> = 0..6;
 pub const L1: usize = 0;
 pub const L2_CODE: usize = 1;
@@ -25,17 +26,17 @@ pub const L2_DATA: usize = 2;
 pub const L3_DATA: usize = 3;
 pub const L2_SUP: usize = 4;
 pub const L2_DEV: usize = 5;
-pub const IMAGE: usize = 6;
-pub const DATA_IPA: usize = 7;
-pub const DATA_PA: usize = 8;
-pub const FRAME_SIZE: usize = 9;
-pub const SUP_IPA: usize = 10;
-pub const SUP_PA: usize = 11;
-pub const DEVICE: usize = 12;
-pub const DEVICE_LEN: usize = 13;
-pub const EXEMPT: usize = 14;
-pub const SUP_FRAMES: usize = 15;
-pub const IMAGE_PRESENT: usize = 16;
+pub const IMAGE_PRESENT: usize = 6;
+pub const IMAGE: usize = 7;
+pub const DATA_IPA: usize = 8;
+pub const DATA_PA: usize = 9;
+pub const FRAME_SIZE: usize = 10;
+pub const SUP_IPA: usize = 11;
+pub const SUP_PA: usize = 12;
+pub const DEVICE: usize = 13;
+pub const DEVICE_LEN: usize = 14;
+pub const EXEMPT: usize = 15;
+pub const SUP_FRAMES: usize = 16;
 
 /// Sizes and limits as document 01 has them: what is computed from them owes nothing to the Rust.
 pub const PAGE: u64 = 1 << 12;
@@ -45,7 +46,7 @@ pub const INPUT_LIMIT: u64 = 1 << 39;
 pub const OUTPUT_LIMIT: u64 = 1 << 48;
 pub const SUP_FRAMES_LIMIT: u64 = 1 << 43;
 
-pub const ACCEPTED: Words = NOTHING;
+pub const ACCEPTED: Outcome = [0; 9];
 
 pub const LAYER: Layer<Fields> = Layer {
     functions: &[Function {
@@ -55,6 +56,7 @@ pub const LAYER: Layer<Fields> = Layer {
         boundary: || Box::new(examples()),
         sweep: |scale| Box::new(layouts(scale)),
         answers: ANSWERS,
+        least: LEAST,
         recorded: true,
     }],
     faults: &[FAULTS],
@@ -74,7 +76,7 @@ const ANSWERS: &[Answer] = &[
 ];
 
 /// Whether an answer is this row's. Row 0 is none: the layout is accepted.
-pub fn row<const NUMBER: u64>(answer: &Words) -> bool {
+pub fn row<const NUMBER: u64>(answer: &[u64]) -> bool {
     answer[0] == NUMBER
 }
 
@@ -83,11 +85,10 @@ pub const LEAST: u64 = 1_000;
 
 impl Input for Fields {
     type Op = ();
-    type Reply = Words;
-    const LEAST: u64 = LEAST;
+    type Reply = Outcome;
 
-    fn port(&self, (): ()) -> Words {
-        port::validate(self)
+    fn port(&self, (): ()) -> Outcome {
+        port_layouts::validate(self)
     }
 
     fn shown(&self) -> String {
@@ -96,7 +97,7 @@ impl Input for Fields {
 }
 
 /// The answer that is due: the Rust's, with rows 8 and 10 put in their places.
-pub fn validate(x: &Fields) -> Words {
+pub fn validate(x: &Fields) -> Outcome {
     match original(x) {
         Some(answer) if (4..=7).contains(&answer[0]) => answer,
         _ if x[SUP_FRAMES] >= SUP_FRAMES_LIMIT => words([8, x[SUP_FRAMES]]),
@@ -108,20 +109,20 @@ pub fn validate(x: &Fields) -> Words {
 }
 
 /// The Rust's own answer, or nothing where one of its sums or products overflows.
-fn original(x: &Fields) -> Option<Words> {
+fn original(x: &Fields) -> Option<Outcome> {
     let layout = layout(x);
     let answer = defined(|| layout.validate())?;
     Some(answer.map_or_else(refusal, |()| ACCEPTED))
 }
 
 /// The first window whose output ends above the limit.
-pub fn row_10(x: &Fields) -> Option<Words> {
+pub fn row_10(x: &Fields) -> Option<Outcome> {
     windows(x)
         .find(|window| window.output_end() > OUTPUT_LIMIT.into())
         .map(|window| words([10, window.code, window.pa]))
 }
 
-fn layout(x: &Fields) -> Layout {
+pub fn layout(x: &Fields) -> Layout {
     Layout {
         l1_pa: x[L1],
         l2_code_pa: x[L2_CODE],
@@ -142,7 +143,7 @@ fn layout(x: &Fields) -> Layout {
     }
 }
 
-fn refusal(violation: EncodingViolation) -> Words {
+fn refusal(violation: EncodingViolation) -> Outcome {
     use EncodingViolation::*;
     match violation {
         DeviceWindowUnaligned { base, len } => words([4, base, len]),

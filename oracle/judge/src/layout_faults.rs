@@ -1,13 +1,14 @@
 //! Slips of a port that validates layouts, at least one for each of rows 4 to 12.
 
 use crate::function::Fault;
-use crate::inputs::{altered, words, Words};
+use crate::inputs::{altered, words, Outcome};
 use crate::layout::{
     all_windows, pairs, row_10, windows, Fields, Window, ACCEPTED, BLOCK, DATA_PA, DEVICE,
     DEVICE_LEN, FRAME_SIZE, IMAGE, IMAGE_PRESENT, INPUT_LIMIT, L1_SPAN, L2_CODE, OUTPUT_LIMIT,
     PAGE, SUP_FRAMES, SUP_FRAMES_LIMIT, SUP_IPA, TABLES,
 };
-use crate::port;
+use crate::port::UNWRITTEN;
+use crate::port_layouts;
 
 pub const FAULTS: &[Fault<Fields>] = &[
     fault(
@@ -93,7 +94,7 @@ pub const FAULTS: &[Fault<Fields>] = &[
                     *table = 0;
                 }
             }
-            *answer = port::validate(&x);
+            *answer = port_layouts::validate(&x);
         },
     ),
     fault(
@@ -283,7 +284,7 @@ pub const FAULTS: &[Fault<Fields>] = &[
         "the last word of the answer is not written where the layout is accepted",
         |_, answer| {
             if *answer == ACCEPTED {
-                answer[7] = port::UNWRITTEN;
+                answer[8] = UNWRITTEN;
             }
         },
     ),
@@ -292,7 +293,7 @@ pub const FAULTS: &[Fault<Fields>] = &[
 const fn fault(
     name: &'static str,
     slip: &'static str,
-    alter: fn(&Fields, &mut Words),
+    alter: fn(&Fields, &mut Outcome),
 ) -> Fault<Fields> {
     Fault {
         name,
@@ -303,17 +304,17 @@ const fn fault(
 }
 
 /// The port's answer to the layout with one other field.
-fn with(x: &Fields, field: usize, value: u64) -> Words {
-    port::validate(&altered(*x, |x| x[field] = value))
+fn with(x: &Fields, field: usize, value: u64) -> Outcome {
+    port_layouts::validate(&altered(*x, |x| x[field] = value))
 }
 
 /// Whether the row is tested before what the answer says, and does not apply.
-fn before(answer: &Words, row: u64) -> bool {
+fn before(answer: &Outcome, row: u64) -> bool {
     *answer == ACCEPTED || answer[0] > row
 }
 
 /// Row 11 for the first two windows in one l1 slot, whatever other rows say.
-fn row_11(x: &Fields) -> Option<Words> {
+fn row_11(x: &Fields) -> Option<Outcome> {
     window_pairs(x)
         .find(|(a, b)| a.l1_index() == b.l1_index())
         .map(|(a, _)| words([11, a.l1_index()]))

@@ -17,6 +17,7 @@ pub const SCENE: Fields = [
     0x4000_4000,
     0x4000_5000,
     0,
+    0,
     0x8000_0000,
     0x5000_0000,
     0x1000,
@@ -26,7 +27,6 @@ pub const SCENE: Fields = [
     0x20_0000,
     0,
     4,
-    0,
 ];
 
 /// Fields of scene S and what they are changed to.
@@ -169,7 +169,10 @@ pub fn accepted(random: &mut Random) -> Fields {
     x[SUP_FRAMES] = sometimes(random, &[0, 1, 511, 512], |random| random.below(513));
     x[SUP_IPA] = placed(random, sup, x[SUP_FRAMES] * BLOCK, BLOCK);
     x[SUP_PA] = placed(random, sup_output, x[SUP_FRAMES] * BLOCK, BLOCK);
-    x[DEVICE_LEN] = BLOCK * sometimes(random, &[0, 1, 512], |random| random.below(9));
+    x[DEVICE_LEN] = BLOCK
+        * sometimes(random, &[0, 1, 512], |random| {
+            random.below(513) >> random.below(8)
+        });
     x[DEVICE] = match x[DEVICE_LEN] {
         0 => random.word(),
         len => placed(random, device, len, BLOCK),

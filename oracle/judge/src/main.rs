@@ -1,13 +1,22 @@
 //! Compares the port with its Rust original, compiled unchanged.
 
 mod absent;
+mod arenas;
 mod authorized;
 mod authorized_examples;
 mod authorized_faults;
 mod authorized_inputs;
+mod bad_line_faults;
+mod bad_lines;
 mod compare;
 mod conflict_faults;
 mod desc;
+mod dump;
+mod dump_faults;
+mod dump_inputs;
+mod encode;
+mod encode_inputs;
+mod encode_row_faults;
 mod exact;
 mod exact_faults;
 mod exact_inputs;
@@ -19,35 +28,41 @@ mod fill_faults;
 mod fill_inputs;
 mod function;
 mod grant_faults;
-mod guard;
-mod guard_faults;
-mod guard_inputs;
 mod inputs;
 mod layout;
 mod layout_edges;
 mod layout_faults;
 mod layout_inputs;
+mod leaf_faults;
 mod map_faults;
 mod map_inputs;
 mod maps;
 mod misread;
+mod number_faults;
 mod p2m;
 mod port;
+mod port_dump;
+mod port_layouts;
 mod port_maps;
+mod reading_faults;
 mod record;
 mod record_inputs;
 mod record_maps;
 mod records;
 mod regime;
+mod scene_text;
+mod scenes;
 mod self_test;
+mod store_faults;
+mod table_faults;
 mod tally;
 mod undefined;
 
 use std::env;
 use std::process::ExitCode;
 
-const USAGE: &str =
-    "usage: judge compare [--long] [--fault N] | self-test | record DIR | check-record DIR";
+const USAGE: &str = "usage: judge compare [--long] [--fault N] | self-test | record DIR | \
+    check-record DIR | scenes DIR | check-scenes DIR";
 
 fn main() -> ExitCode {
     undefined::quieten();
@@ -71,6 +86,8 @@ fn run(arguments: &[&str]) -> Result<(), String> {
         ["self-test"] => self_test::self_test(),
         ["record", folder] => record::write(folder),
         ["check-record", folder] => record::check(folder),
+        ["scenes", folder] => scenes::write(folder),
+        ["check-scenes", folder] => scenes::check(folder),
         _ => Err(USAGE.into()),
     }
 }

@@ -1,6 +1,6 @@
 //! Slips in row 3, of a port that reads a map.
 
-use crate::inputs::Words;
+use crate::inputs::Outcome;
 
 /// A byte of 4 is accepted.
 pub fn four_as_3(map: &mut [u8]) {
@@ -9,7 +9,7 @@ pub fn four_as_3(map: &mut [u8]) {
 }
 
 /// The last byte above 3 is reported.
-pub fn report_last(map: &[u8], answer: &mut Words) {
+pub fn report_last(map: &[u8], answer: &mut Outcome) {
     let last = map.iter().rposition(|byte| *byte > 3);
     if let Some(last) = last.filter(|_| answer[0] == 3) {
         answer[2] = last as u64;

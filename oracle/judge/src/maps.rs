@@ -3,10 +3,13 @@
 
 use given_s2::leafmap::Perm;
 
-use crate::inputs::{words, Words};
+use crate::inputs::{words, Outcome};
 
 /// The most entries of a map.
 pub const MAP_LEN: usize = 512;
+
+/// A byte that row 3 refuses, and that is mapped where it is only asked whether it is.
+pub const NO_PERMISSION: u8 = u8::MAX;
 
 /// Whether row 2 refuses the map.
 pub fn too_long(map: &[u8]) -> bool {
@@ -14,7 +17,7 @@ pub fn too_long(map: &[u8]) -> bool {
 }
 
 /// Row 3 for the lowest byte that is no permission, with the code of the map.
-pub fn row_3(code: u64, map: &[u8]) -> Option<Words> {
+pub fn row_3(code: u64, map: &[u8]) -> Option<Outcome> {
     let place = map.iter().position(|byte| *byte > 3)?;
     Some(words([3, code, place as u64]))
 }

@@ -30,6 +30,7 @@ const FUNCTIONS: &[Function] = &[
         boundary: || Box::new(frame_boundary().filter(representable)),
         sweep: |scale| Box::new(frames(scale).filter(representable)),
         answers: FRAME_ANSWERS,
+        least: 1,
         recorded: true,
     },
     Function {
@@ -39,6 +40,7 @@ const FUNCTIONS: &[Function] = &[
         boundary: || Box::new(frame_boundary().filter(|x| !representable(x))),
         sweep: |scale| Box::new(frames(scale).filter(|x| !representable(x))),
         answers: FRAME_ANSWERS,
+        least: 1,
         recorded: false,
     },
     Function::of_code("level", LEVEL, level, LEVEL_ANSWERS),

@@ -1,4 +1,4 @@
-//! The port's side of filling and checking maps: the functions that `libprobe_maps.a` exports.
+//! The port's side of filling and checking maps: the functions that `libs2.a` exports.
 //!
 //! Each call fails if it has changed what it was lent for reading, or what stands around it.
 
@@ -6,12 +6,13 @@ use crate::authorized::{authorized as original, Granted};
 use crate::exact::Linked;
 use crate::fenced::Fenced;
 use crate::fill::{Filled, Filling};
-use crate::inputs::Words;
-use crate::port::UNWRITTEN;
+use crate::inputs::Outcome;
+use crate::maps::NO_PERMISSION;
+use crate::port::outcome;
 use crate::records::{Edge, Frame, Grant};
 
 extern "C" {
-    fn probe_fill(
+    fn s2_fill(
         edges: *const Edge,
         edge_count: usize,
         frames: *const Frame,
@@ -21,10 +22,10 @@ extern "C" {
         base_len: usize,
         sup: *mut u8,
         sup_len: usize,
-        out: *mut u64,
-    );
+        values: *mut u64,
+    ) -> u32;
 
-    fn probe_authorized(
+    fn s2_authorized(
         dom: u16,
         map: *const u8,
         map_len: usize,
@@ -32,10 +33,10 @@ extern "C" {
         frame_count: usize,
         grants: *const Grant,
         grant_count: usize,
-        out: *mut u64,
-    );
+        values: *mut u64,
+    ) -> u32;
 
-    fn probe_exact(
+    fn s2_exact(
         dom: u16,
         map: *const u8,
         map_len: usize,
@@ -44,22 +45,18 @@ extern "C" {
         edge_count: usize,
         frames: *const Frame,
         frame_count: usize,
-        out: *mut u64,
-    );
+        values: *mut u64,
+    ) -> u32;
 }
 
-/// A byte that row 3 refuses, and that is mapped where it is only asked whether it is.
-const NO_PERMISSION: u8 = u8::MAX;
-
 pub fn fill(x: &Filling) -> Filled {
-    let mut out = [UNWRITTEN; 8];
     let mut edges = Fenced::new(&x.edges, refused_edge(x));
     let mut frames = Fenced::new(&x.frames, table(x.dom, 4));
     let mut base = Fenced::new(&x.base, NO_PERMISSION);
     let mut sup = Fenced::new(&x.sup, NO_PERMISSION);
-    // SAFETY: each list and map is as long as is said, and `out` has eight words.
-    unsafe {
-        probe_fill(
+    // SAFETY: each list and map is as long as is said, and eight values are written.
+    let outcome = outcome(|values| unsafe {
+        s2_fill(
             edges.as_mut_ptr(),
             x.edges.len(),
             frames.as_mut_ptr(),
@@ -69,30 +66,29 @@ pub fn fill(x: &Filling) -> Filled {
             x.base.len(),
             sup.as_mut_ptr(),
             x.sup.len(),
-            out.as_mut_ptr(),
-        );
-    }
+            values,
+        )
+    });
     let unchanged = edges.lent() == Some(&x.edges[..]) && frames.lent() == Some(&x.frames[..]);
-    assert!(unchanged, "probe_fill stores into the lists of {x}");
+    assert!(unchanged, "s2_fill stores into the lists of {x}");
     let filled = |map: Fenced<u8>| match map.lent() {
         Some(map) => map.to_vec(),
-        None => panic!("probe_fill stores around the maps of {x}"),
+        None => panic!("s2_fill stores around the maps of {x}"),
     };
     Filled {
-        words: out,
+        outcome,
         base: filled(base),
         sup: filled(sup),
     }
 }
 
-pub fn authorized(x: &Granted) -> Words {
-    let mut out = [UNWRITTEN; 8];
+pub fn authorized(x: &Granted) -> Outcome {
     let mut map = Fenced::new(&x.map, NO_PERMISSION);
     let mut frames = Fenced::new(&x.frames, table(x.dom, 2));
     let mut grants = Fenced::new(&x.grants, missing_grant(x));
-    // SAFETY: the map and each list are as long as is said, and `out` has eight words.
-    unsafe {
-        probe_authorized(
+    // SAFETY: the map and each list are as long as is said, and eight values are written.
+    let outcome = outcome(|values| unsafe {
+        s2_authorized(
             x.dom,
             map.as_mut_ptr(),
             x.map.len(),
@@ -100,24 +96,23 @@ pub fn authorized(x: &Granted) -> Words {
             x.frames.len(),
             grants.as_mut_ptr(),
             x.grants.len(),
-            out.as_mut_ptr(),
-        );
-    }
+            values,
+        )
+    });
     let unchanged = map.lent() == Some(&x.map[..])
         && frames.lent() == Some(&x.frames[..])
         && grants.lent() == Some(&x.grants[..]);
-    assert!(unchanged, "probe_authorized stores into {x}");
-    out
+    assert!(unchanged, "s2_authorized stores into {x}");
+    outcome
 }
 
-pub fn exact(x: &Linked) -> Words {
-    let mut out = [UNWRITTEN; 8];
+pub fn exact(x: &Linked) -> Outcome {
     let mut map = Fenced::new(&x.map, NO_PERMISSION);
     let mut edges = Fenced::new(&x.edges, other_edge(x));
     let mut frames = Fenced::new(&x.frames, table(x.dom, x.kind()));
-    // SAFETY: the map and each list are as long as is said, and `out` has eight words.
-    unsafe {
-        probe_exact(
+    // SAFETY: the map and each list are as long as is said, and eight values are written.
+    let outcome = outcome(|values| unsafe {
+        s2_exact(
             x.dom,
             map.as_mut_ptr(),
             x.map.len(),
@@ -126,14 +121,14 @@ pub fn exact(x: &Linked) -> Words {
             x.edges.len(),
             frames.as_mut_ptr(),
             x.frames.len(),
-            out.as_mut_ptr(),
-        );
-    }
+            values,
+        )
+    });
     let unchanged = map.lent() == Some(&x.map[..])
         && edges.lent() == Some(&x.edges[..])
         && frames.lent() == Some(&x.frames[..]);
-    assert!(unchanged, "probe_exact stores into {x}");
-    out
+    assert!(unchanged, "s2_exact stores into {x}");
+    outcome
 }
 
 /// A page table of the domain: past the frames, nobody owns one.
@@ -170,7 +165,10 @@ fn other_edge(x: &Linked) -> Edge {
 
 /// The grant without which row 23 or 24 refuses a domain's frame.
 fn missing_grant(x: &Granted) -> Grant {
-    let [_, _, mfn, owner, ..] = original(x);
+    let (mfn, owner) = match original(x) {
+        [23, _, mfn, 1, owner, ..] | [24, _, mfn, owner, ..] => (mfn, owner),
+        _ => (0, 0),
+    };
     Grant {
         grantor: owner as u32,
         grantee: x.dom.into(),

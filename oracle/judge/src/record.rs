@@ -72,7 +72,7 @@ impl Record {
         }
     }
 
-    fn add<I: Input<Reply = Words>>(
+    fn add<I: Input<Reply = [u64; N]>, const N: usize>(
         &mut self,
         function: &Function<I>,
         inputs: impl Iterator<Item = I>,

@@ -9,7 +9,7 @@ use crate::authorized::{anothers, authorized, nobodys, Granted};
 use crate::exact::{exact, Linked};
 use crate::fill::{fill, Filling};
 use crate::function::Answer;
-use crate::inputs::{random, Random, Words};
+use crate::inputs::{random, Outcome, Random, Words};
 use crate::layout::row;
 use crate::p2m::NOBODY;
 use crate::record::digits;
@@ -56,11 +56,12 @@ pub fn lines() -> Result<(String, String), String> {
         Tally::new("recorded check_exact", COMPARED),
     ];
     for call in random(Random(15), CALLS, call) {
-        let answer = answer(&call);
-        tallies[call[0] as usize - 1].count(&answer[0]);
+        let (outcome, maps) = answer(&call);
+        tallies[call[0] as usize - 1].count(&outcome);
         stdin += &format!("{}\n", digits(&call));
-        for words in answer {
-            stdout += &format!("{}\n", digits(&words));
+        stdout += &format!("{}\n", digits(&outcome));
+        for map in maps {
+            stdout += &format!("{}\n", digits(&map));
         }
     }
     tallies
@@ -70,25 +71,34 @@ pub fn lines() -> Result<(String, String), String> {
 }
 
 /// The answer, and after a filling both maps.
-fn answer(call: &Call) -> Vec<Words> {
+fn answer(call: &Call) -> (Outcome, Vec<Words>) {
     match call[0] {
         FILL => {
             let filled = fill(&filling(call));
-            vec![filled.words, entries(&filled.base), entries(&filled.sup)]
+            let maps = [filled.base, filled.sup].map(|map| entries(&map));
+            (filled.outcome, maps.into())
         }
-        AUTHORIZED => vec![authorized(&Granted {
-            dom: call[1] as DomId,
-            map: call[3].to_le_bytes().into(),
-            frames: frames(call),
-            grants: call[14..].iter().copied().map(grant).collect(),
-        })],
-        _ => vec![exact(&Linked {
-            dom: call[1] as DomId,
-            map: call[3].to_le_bytes().into(),
-            is_super: call[2] as u32,
-            edges: edges(call),
-            frames: frames(call),
-        })],
+        AUTHORIZED => (authorized(&granted(call)), Vec::new()),
+        _ => (exact(&beside_edges(call)), Vec::new()),
+    }
+}
+
+fn granted(call: &Call) -> Granted {
+    Granted {
+        dom: call[1] as DomId,
+        map: call[3].to_le_bytes().into(),
+        frames: frames(call),
+        grants: call[14..].iter().copied().map(grant).collect(),
+    }
+}
+
+fn beside_edges(call: &Call) -> Linked {
+    Linked {
+        dom: call[1] as DomId,
+        map: call[3].to_le_bytes().into(),
+        is_super: call[2] as u32,
+        edges: edges(call),
+        frames: frames(call),
     }
 }
 

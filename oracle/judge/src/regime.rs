@@ -36,6 +36,7 @@ const FUNCTIONS: &[Function] = &[
         boundary: || Box::new(regime_boundary()),
         sweep: |scale| Box::new(regimes(scale)),
         answers: REGIME_ANSWERS,
+        least: 1,
         recorded: true,
     },
     Function {
@@ -45,6 +46,7 @@ const FUNCTIONS: &[Function] = &[
         boundary: || Box::new(vtcr_boundary().map(one)),
         sweep: |scale| Box::new(vtcrs(scale).map(one)),
         answers: DECODE_VTCR_ANSWERS,
+        least: 1,
         recorded: true,
     },
     Function {
@@ -54,6 +56,7 @@ const FUNCTIONS: &[Function] = &[
         boundary: || Box::new(vttbr_boundary()),
         sweep: |scale| Box::new(random(Random(9), 500_000 * scale, random_vttbr)),
         answers: VTTBR_ANSWERS,
+        least: 1,
         recorded: true,
     },
     Function {
@@ -63,6 +66,7 @@ const FUNCTIONS: &[Function] = &[
         boundary: || Box::new(vttbr_boundary().map(|x| one(vttbr(x[0], x[1])))),
         sweep: |scale| Box::new(Random(10).take(500_000 * scale).map(one)),
         answers: VTTBR_FIELDS_ANSWERS,
+        least: 1,
         recorded: true,
     },
 ];

@@ -3,7 +3,7 @@
 use crate::compare::{compare, Difference};
 use crate::function::{
     fault_names, faults, functions, Fault, Input, Layer, FILLINGS, GRANTED, LAYOUTS, LINKED,
-    SCENES, WORDS,
+    SCENES, TEXTS, WORDS,
 };
 
 pub fn self_test() -> Result<(), String> {
@@ -12,7 +12,8 @@ pub fn self_test() -> Result<(), String> {
         + missed(&SCENES)
         + missed(&FILLINGS)
         + missed(&GRANTED)
-        + missed(&LINKED);
+        + missed(&LINKED)
+        + missed(&TEXTS);
     if missed > 0 {
         return Err(format!("{missed} faults not caught"));
     }

@@ -3,7 +3,6 @@
 use std::fmt::{self, Display, Formatter};
 
 use crate::function::Answer;
-use crate::inputs::Words;
 
 pub struct Tally {
     function: &'static str,
@@ -23,7 +22,7 @@ impl Tally {
         }
     }
 
-    pub fn count(&mut self, answer: &Words) {
+    pub fn count(&mut self, answer: &[u64]) {
         self.inputs += 1;
         for (count, (_, is)) in self.counts.iter_mut().zip(self.answers) {
             *count += u64::from(is(answer));

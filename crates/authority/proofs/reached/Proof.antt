@@ -116,9 +116,6 @@ returns-5 c =
     (asked w ∙ v .before .if3 .left)
     (sym (v .granted2 .ensures) ∙ c .if4 .taken))
 
-cast-unauthorized : tie.Need-cast-unauthorized
-cast-unauthorized c = search needs
-
 unauthorized-requires-2 : tie.Need-unauthorized-requires-2
 unauthorized-requires-2 c κs = search needs
 
@@ -153,6 +150,5 @@ reached-spec =
     granted-requires-2
     cast-t16
     returns-5
-    cast-unauthorized
     unauthorized-requires-2
     returns-6)

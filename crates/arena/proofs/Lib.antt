@@ -1,0 +1,4 @@
+pub mod At
+pub mod Bound
+pub mod Over
+pub mod Runs

@@ -1,0 +1,86 @@
+-- `put_devices` meets its contract: m words of the run are stored.
+use Prim.Native.Nat.{ℕ, _+_, _-_, _*_, _≤_, _<_}
+use mathlib.Core.Bool.{Bool}
+use mathlib.Core.List.{List, [], _∷_}
+use mathlib.Core.Path.{_≡_, refl, sym, ap, _∙_}
+use native.Mathlib.Omega.{arith}
+use lib.ListN.{length, getD, List·getD-eq-default}
+use borrow.Author.Needs.{needs}
+use denote.Ref.{now}
+use Rattle.arena.proofs.Over.{over-none, over-more, over-run}
+use Rattle.arena.proofs.Runs.{resized}
+use Rattle.arena.specs.Encoded.{run, one, wordAt, stored, deviceAt}
+use Rattle.arena.specs.Over.{Over}
+use Rattle.arena.specs.Word.{leafFor, pageTo, blockTo}
+use Rattle.layout.specs.Size.{entries, page, block}
+use Rattle.encode.proofs.put_devices.Statement.{statement}
+use Rattle.encode.proofs.put_devices.Tie as tie
+
+abbrev Inv-loop : tie.InvT-loop
+Inv-loop arena₀ from base count m₀ arena m = Over (stored (run 6 from m (deviceAt base) ∷ [])) arena₀ arena × (m ≤ count)
+
+abbrev μ-loop : tie.MeasureT-loop
+μ-loop arena₀ from base count m₀ arena m = count - m
+
+loop-holds : tie.Need-loop-holds Inv-loop μ-loop
+loop-holds c = (over-none _ _ _ _, omega arith)
+
+add-put : tie.Need-add-put Inv-loop μ-loop
+add-put c = search needs
+
+cast-device-word : tie.Need-cast-device-word Inv-loop μ-loop
+cast-device-word c = search needs
+
+device-word-requires : tie.Need-device-word-requires Inv-loop μ-loop
+device-word-requires c κs = search needs
+
+put-requires : tie.Need-put-requires Inv-loop μ-loop
+put-requires c κs =
+    let h = c .before .before .before in
+    let a = h .before .before .args in
+    let p = h .before .before .pre in
+    let turn = c .before .before in
+    (h .loop .inv .0 .long ∙ p .0, (omega arith, (omega arith, λ _. let h1 = turn .loop-test .taken in omega (arith, h1, p .1))))
+
+add-m : tie.Need-add-m Inv-loop μ-loop
+add-m c = search needs
+
+loop-less : tie.Need-loop-less Inv-loop μ-loop
+loop-less c = search needs
+
+loop-again : tie.Need-loop-again Inv-loop μ-loop
+loop-again c =
+    let v = c .before .before in
+    let h = v .before .before .before .before in
+    let h1 = v .before .before .before .loop-test .taken in
+    (over-more _ _ (h .loop .m) _ _ _ _ _ (v .before .device-word .ensures) (h .loop .inv .0) (v .put .ensures), omega (arith, h1))
+
+same-length : tie.Need-same-length Inv-loop μ-loop
+same-length c = c .before .loop .inv .0 .long
+
+returns : tie.Need-returns Inv-loop μ-loop
+returns c =
+    let h = c .before in
+    let a = h .before .before .args in
+    let left = c .loop-test .left in
+    let all : h .loop .m ≡ a .count = omega (arith, left, h .loop .inv .1) in
+    over-run (run 6 (a .from) (h .loop .m) (deviceAt (a .base))) (run 6 (a .from) (a .count) (deviceAt (a .base))) _ _
+    (λ i. ap (λ (n : ℕ). wordAt (run 6 (a .from) n (deviceAt (a .base))) i) all)
+    (h .loop .inv .0)
+
+pub put-devices-spec : {M : Type 1} → statement M
+put-devices-spec =
+    tie.close
+    (tie.spec
+    Inv-loop
+    μ-loop
+    loop-holds
+    add-put
+    cast-device-word
+    device-word-requires
+    put-requires
+    add-m
+    loop-less
+    loop-again
+    same-length
+    returns)

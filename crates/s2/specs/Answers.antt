@@ -1,0 +1,49 @@
+-- What the exported calls answer: a number, 0 where accepted, and eight values; and what the filling leaves in both maps.
+use Prim.Native.Nat.{ℕ}
+use mathlib.Core.List.{List, [], _∷_, map}
+use mathlib.Core.Path.{_≡_}
+use lib.Dec.{eqb}
+use Rattle.arena.specs.Over.{Over}
+use Rattle.authority.specs.Authority.{authorityRows}
+use Rattle.edge.specs.Edge.{edgeOf}
+use Rattle.edge.specs.Grant.{grantOf}
+use Rattle.encode.specs.Encoding.{left}
+use Rattle.exact.specs.Exact.{exactRows}
+use Rattle.fields.specs.Named.{pick}
+use Rattle.filling.specs.Filling.{Filling, filled}
+use Rattle.layout.specs.Layout.{layoutOf}
+use Rattle.layout.specs.Size.{outputLimit}
+use Rattle.p2m.specs.declared.Span.{Span}
+use Rattle.p2m.specs.declared.Span.the-variants.{Base, Super}
+use Rattle.refusal.specs.Outcome.{outcomeWords}
+use Rattle.refusal.specs.Table.{Outcome, first}
+use Rattle.rows.specs.Rows.{refusals, arenaGuardRows}
+
+abbrev pub validateAnswer : List ℕ → List ℕ
+validateAnswer numbers = outcomeWords (first (refusals (layoutOf numbers)))
+
+-- outcome, base, super
+abbrev pub fillingWords : Filling → List (List ℕ)
+fillingWords f = outcomeWords (f .outcome) ∷ f .base ∷ f .sup ∷ []
+
+abbrev pub fillAnswer : List (List ℕ) → List (List ℕ) → ℕ → List ℕ → List ℕ → List (List ℕ)
+fillAnswer edges frames dom base sup = fillingWords (filled frames dom (map edgeOf edges) base sup)
+
+abbrev pub encodeOutcome : List ℕ → List ℕ → List ℕ → List ℕ → Outcome
+encodeOutcome numbers base sup arena = first (arenaGuardRows outputLimit arena base sup (layoutOf numbers))
+
+-- the answer, and the words at exit
+pub record EncodeAnswer (numbers base sup old answer new : List ℕ) : Type 0 where
+  pub outcome : answer ≡ outcomeWords (encodeOutcome numbers base sup old)
+  pub words : Over (left (encodeOutcome numbers base sup old) (layoutOf numbers) base sup) old new
+
+abbrev pub authorizedAnswer : ℕ → List ℕ → List (List ℕ) → List (List ℕ) → List ℕ
+authorizedAnswer dom leaves frames grants = outcomeWords (first (authorityRows frames (map grantOf grants) dom leaves))
+
+-- zero is base, all else super
+abbrev pub spanNumbered : ℕ → Span
+spanNumbered n = pick (eqb n 0) Base Super
+
+abbrev pub exactAnswer : ℕ → List ℕ → ℕ → List (List ℕ) → List (List ℕ) → List ℕ
+exactAnswer dom leaves isSuper edges frames =
+    outcomeWords (first (exactRows frames dom (spanNumbered isSuper) (map edgeOf edges) leaves))

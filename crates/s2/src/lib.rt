@@ -1,0 +1,167 @@
+// The calls of board code: numbers and slices in, document 01's number and the carried values out. A layout is its sixteen fields in
+// number order, with whether there is an image just before the image. A call returns 0 where it accepts.
+use layout::Layout;
+use p2m::Span;
+use refusal::Verdict;
+ghost use mathlib.Core.List.{[], _∷_};
+ghost use mathlib.Core.Path.{_≡_};
+ghost use Rattle.refusal.specs.Outcome.{outcomeOf, outcomeWords};
+ghost use Rattle.s2.specs.Answers.{validateAnswer, fillAnswer, EncodeAnswer, authorizedAnswer, spanNumbered, exactAnswer};
+
+// Rows 4 to 12.
+#[no_mangle]
+pub extern "C" fn s2_validate(
+    l1_pa: u64,
+    l2_code_pa: u64,
+    l2_data_pa: u64,
+    l3_data_pa: u64,
+    l2_sup_pa: u64,
+    l2_dev_pa: u64,
+    has_image: u64,
+    guest_image_pa: u64,
+    data_ipa_base: u64,
+    data_pa_base: u64,
+    frame_size: u64,
+    sup_ipa_base: u64,
+    sup_pa_base: u64,
+    device_base: u64,
+    device_len: u64,
+    sup_wx_exempt: u64,
+    sup_frames: u64,
+    values: &mut [u64; 8],
+) -> u32
+    ensures { λ r. ⌜ (r ∷ now (values .exit)) ≡ validateAnswer («l1_pa» ∷ «l2_code_pa» ∷ «l2_data_pa» ∷ «l3_data_pa» ∷ «l2_sup_pa» ∷ «l2_dev_pa» ∷ «has_image» ∷ «guest_image_pa» ∷ «data_ipa_base» ∷ «data_pa_base» ∷ «frame_size» ∷ «sup_ipa_base» ∷ «sup_pa_base» ∷ «device_base» ∷ «device_len» ∷ «sup_wx_exempt» ∷ «sup_frames» ∷ []) ⌝ }
+{
+    let numbers = [
+        l1_pa,
+        l2_code_pa,
+        l2_data_pa,
+        l3_data_pa,
+        l2_sup_pa,
+        l2_dev_pa,
+        has_image,
+        guest_image_pa,
+        data_ipa_base,
+        data_pa_base,
+        frame_size,
+        sup_ipa_base,
+        sup_pa_base,
+        device_base,
+        device_len,
+        sup_wx_exempt,
+        sup_frames,
+    ];
+    answer(validate::validate(Layout::of(&numbers)), values)
+}
+
+// Rows 2 and 15 to 17. Both maps are filled, as far as document 01 says where it refuses.
+#[no_mangle]
+pub extern "C" fn s2_fill(
+    edges: &[[u32; 6]],
+    frames: &[[u32; 2]],
+    dom: u16,
+    base: &mut [u8],
+    sup: &mut [u8],
+    values: &mut [u64; 8],
+) -> u32
+    ensures { λ r. ⌜ ((r ∷ now (values .exit)) ∷ now (base .exit) ∷ now (sup .exit) ∷ []) ≡ fillAnswer (now (edges .entry)) (now (frames .entry)) dom (now (base .entry)) (now (sup .entry)) ⌝ }
+{
+    answer(leafmap::leaf_map_from_edges(edges, frames, dom, base, sup), values)
+}
+
+// Rows 1 to 14. A refusal leaves every word of the arena as found.
+#[no_mangle]
+pub extern "C" fn s2_encode(
+    arena: &mut [u64],
+    base: &[u8],
+    sup: &[u8],
+    l1_pa: u64,
+    l2_code_pa: u64,
+    l2_data_pa: u64,
+    l3_data_pa: u64,
+    l2_sup_pa: u64,
+    l2_dev_pa: u64,
+    has_image: u64,
+    guest_image_pa: u64,
+    data_ipa_base: u64,
+    data_pa_base: u64,
+    frame_size: u64,
+    sup_ipa_base: u64,
+    sup_pa_base: u64,
+    device_base: u64,
+    device_len: u64,
+    sup_wx_exempt: u64,
+    sup_frames: u64,
+    values: &mut [u64; 8],
+) -> u32
+    ensures { λ r. ⌜ EncodeAnswer («l1_pa» ∷ «l2_code_pa» ∷ «l2_data_pa» ∷ «l3_data_pa» ∷ «l2_sup_pa» ∷ «l2_dev_pa» ∷ «has_image» ∷ «guest_image_pa» ∷ «data_ipa_base» ∷ «data_pa_base» ∷ «frame_size» ∷ «sup_ipa_base» ∷ «sup_pa_base» ∷ «device_base» ∷ «device_len» ∷ «sup_wx_exempt» ∷ «sup_frames» ∷ []) (now (base .entry)) (now (sup .entry)) (now (arena .entry)) (r ∷ now (values .exit)) (now (arena .exit)) ⌝ }
+{
+    let numbers = [
+        l1_pa,
+        l2_code_pa,
+        l2_data_pa,
+        l3_data_pa,
+        l2_sup_pa,
+        l2_dev_pa,
+        has_image,
+        guest_image_pa,
+        data_ipa_base,
+        data_pa_base,
+        frame_size,
+        sup_ipa_base,
+        sup_pa_base,
+        device_base,
+        device_len,
+        sup_wx_exempt,
+        sup_frames,
+    ];
+    answer(encode::encode(arena, base, sup, Layout::of(&numbers)), values)
+}
+
+// Rows 2, 3, 23 and 24.
+#[no_mangle]
+pub extern "C" fn s2_authorized(
+    dom: u16,
+    map: &[u8],
+    frames: &[[u32; 2]],
+    grants: &[[u32; 4]],
+    values: &mut [u64; 8],
+) -> u32
+    ensures { λ r. ⌜ (r ∷ now (values .exit)) ≡ authorizedAnswer dom (now (map .entry)) (now (frames .entry)) (now (grants .entry)) ⌝ }
+{
+    answer(authority::check_authorized_with(dom, map, frames, grants), values)
+}
+
+// Rows 2, 3 and 25.
+#[no_mangle]
+pub extern "C" fn s2_exact(
+    dom: u16,
+    map: &[u8],
+    is_super: u32,
+    edges: &[[u32; 6]],
+    frames: &[[u32; 2]],
+    values: &mut [u64; 8],
+) -> u32
+    ensures { λ r. ⌜ (r ∷ now (values .exit)) ≡ exactAnswer dom (now (map .entry)) «is_super» (now (edges .entry)) (now (frames .entry)) ⌝ }
+{
+    let span = span_numbered(is_super);
+    answer(exact::check_exact(dom, map, span, edges, frames), values)
+}
+
+fn span_numbered(is_super: u32) -> Span
+    ensures { λ r. ⌜ r ≡ spanNumbered «is_super» ⌝ }
+{
+    if is_super == 0 {
+        return Span::Base;
+    }
+    Span::Super
+}
+
+// The number, and the values.
+fn answer(verdict: Verdict, values: &mut [u64; 8]) -> u32
+    ensures { λ r. ⌜ (r ∷ now (values .exit)) ≡ outcomeWords (outcomeOf verdict) ⌝ }
+{
+    let w = verdict.words();
+    *values = [w[1], w[2], w[3], w[4], w[5], w[6], w[7], w[8]];
+    w[0] as u32
+}

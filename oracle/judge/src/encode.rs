@@ -1,0 +1,199 @@
+//! arm64.rs: `encode`, after the rows that document 01 has tested before a word is stored.
+//!
+//! Rows 1, 2, 3, 13 and 14 are not in the Rust: they are computed here from document 01's table.
+//! Rows 4 to 12 are as in layout.rs. The words of an accepted scene are the unchanged Rust's.
+
+use std::fmt::{self, Display, Formatter};
+use std::ops::Range;
+
+use given_s2::arm64::{self, Tables};
+
+use crate::encode_inputs::{accepted_scenes, changed_scenes, filled_scenes, scenes};
+use crate::function::{Answer, Function, Input, Layer, Reply};
+use crate::inputs::{hex, words, Outcome};
+use crate::layout::{self, layout, pairs, row, Fields, ACCEPTED, LEAST, SUP_FRAMES, TABLES};
+use crate::maps;
+use crate::port_layouts;
+use crate::{encode_row_faults, leaf_faults, store_faults, table_faults};
+
+/// A layout with what is lent beside it.
+#[derive(Clone)]
+pub struct Scene {
+    /// The arena as it is before the call. Any words may stand there.
+    pub arena: Vec<u64>,
+    pub base: Vec<u8>,
+    pub sup: Vec<u8>,
+    pub fields: Fields,
+}
+
+#[derive(Clone, PartialEq)]
+pub struct Encoded {
+    pub outcome: Outcome,
+    /// The arena as it is after the call.
+    pub arena: Vec<u64>,
+}
+
+/// The words of a table, and of an arena.
+pub const TABLE_LEN: usize = 512;
+pub const ARENA_LEN: usize = 3_072;
+
+/// The words of a table, which has document 01's number, in an arena.
+pub fn table(number: usize) -> Range<usize> {
+    TABLE_LEN * (number - 1)..TABLE_LEN * number
+}
+
+pub const LAYER: Layer<Scene> = Layer {
+    functions: &[
+        Function {
+            name: "encode",
+            op: (),
+            original: encode,
+            boundary: || Box::new(changed_scenes()),
+            sweep: |scale| Box::new(scenes(scale)),
+            answers: ANSWERS,
+            least: LEAST,
+            recorded: false,
+        },
+        Function {
+            name: "encode, no row refuses",
+            op: (),
+            original: encode,
+            boundary: || Box::new(filled_scenes()),
+            sweep: |scale| Box::new(accepted_scenes(scale)),
+            answers: &[("accepted", row::<0>)],
+            least: 20_000,
+            recorded: false,
+        },
+    ],
+    faults: &[
+        encode_row_faults::FAULTS,
+        store_faults::FAULTS,
+        table_faults::FAULTS,
+        leaf_faults::FAULTS,
+    ],
+};
+
+const ANSWERS: &[Answer] = &[
+    ("accepted", row::<0>),
+    ("row 1", row::<1>),
+    ("row 2", row::<2>),
+    ("row 3", row::<3>),
+    ("row 4", row::<4>),
+    ("row 5", row::<5>),
+    ("row 6", row::<6>),
+    ("row 7", row::<7>),
+    ("row 8", row::<8>),
+    ("row 9", row::<9>),
+    ("row 10", row::<10>),
+    ("row 11", row::<11>),
+    ("row 12", row::<12>),
+    ("row 13", row::<13>),
+    ("row 14", row::<14>),
+];
+
+impl Input for Scene {
+    type Op = ();
+    type Reply = Encoded;
+
+    fn port(&self, (): ()) -> Encoded {
+        port_layouts::encode(self)
+    }
+
+    fn shown(&self) -> String {
+        self.to_string()
+    }
+}
+
+impl Reply for Encoded {
+    fn words(&self) -> &[u64] {
+        &self.outcome
+    }
+
+    /// The answer, and the first few words that differ, with their tables and indices.
+    fn shown(&self, other: &Self) -> String {
+        let both = self.arena.iter().zip(&other.arena).enumerate();
+        let differing = both.filter(|(_, (word, other))| word != other).take(4);
+        let differing = differing.map(|(place, (word, _))| {
+            let (table, index) = (1 + place / TABLE_LEN, place % TABLE_LEN);
+            format!(", {table} {index:03x} {word:016x}")
+        });
+        hex(&self.outcome) + &differing.collect::<String>()
+    }
+}
+
+pub fn encode(scene: &Scene) -> Encoded {
+    let outcome = guard(scene);
+    let mut arena = scene.arena.clone();
+    if outcome == ACCEPTED {
+        original(scene, &mut arena);
+    }
+    Encoded { outcome, arena }
+}
+
+fn original(scene: &Scene, arena: &mut [u64]) {
+    let ([l1, l2_code, l2_data, l3_data, l2_sup, l2_dev], []) = arena.as_chunks_mut() else {
+        panic!("row 1 refuses any other arena");
+    };
+    arm64::encode(
+        &maps::entries(&scene.base),
+        &maps::entries(&scene.sup),
+        &layout(&scene.fields),
+        Tables {
+            l1,
+            l2_code,
+            l2_data,
+            l3_data,
+            l2_sup,
+            l2_dev,
+        },
+    );
+}
+
+/// The row that refuses the scene.
+pub fn guard(scene: &Scene) -> Outcome {
+    row_1(scene)
+        .or_else(|| row_2(scene))
+        .or_else(|| row_3(scene))
+        .or_else(|| Some(layout::validate(&scene.fields)).filter(|answer| *answer != ACCEPTED))
+        .or_else(|| row_13(&scene.fields))
+        .or_else(|| row_14(scene))
+        .unwrap_or(ACCEPTED)
+}
+
+fn row_1(scene: &Scene) -> Option<Outcome> {
+    (scene.arena.len() != ARENA_LEN).then_some(words([1]))
+}
+
+pub fn row_2(scene: &Scene) -> Option<Outcome> {
+    let too_long = maps::too_long(&scene.base) || maps::too_long(&scene.sup);
+    too_long.then_some(words([2]))
+}
+
+fn row_3(scene: &Scene) -> Option<Outcome> {
+    maps::row_3(1, &scene.base).or_else(|| maps::row_3(2, &scene.sup))
+}
+
+pub fn row_13(x: &Fields) -> Option<Outcome> {
+    pairs(TABLES.end)
+        .find(|(first, second)| x[*first] == x[*second])
+        .map(|(first, second)| words([13, 1 + first as u64, 1 + second as u64]))
+}
+
+pub fn row_14(scene: &Scene) -> Option<Outcome> {
+    let mapped = |place: usize| scene.sup[place] != 0 && place as u64 >= scene.fields[SUP_FRAMES];
+    let place = (0..scene.sup.len()).find(|place| mapped(*place))?;
+    Some(words([14, place as u64]))
+}
+
+impl Display for Scene {
+    fn fmt(&self, f: &mut Formatter) -> fmt::Result {
+        let (base, sup) = (maps::shown(&self.base), maps::shown(&self.sup));
+        let fields = hex(&self.fields);
+        let len = self.arena.len();
+        let old = self.arena.iter().filter(|word| **word != 0).count();
+        write!(
+            f,
+            "arena {len} with {old} old words, base {base}, super {sup}, layout {fields}"
+        )
+    }
+}

@@ -1,0 +1,110 @@
+//! The port's side of layouts: the functions of `libs2.a` that are handed one.
+
+use crate::encode::{Encoded, Scene};
+use crate::fenced::Fenced;
+use crate::inputs::Outcome;
+use crate::layout::Fields;
+use crate::maps::NO_PERMISSION;
+use crate::port::{outcome, UNWRITTEN};
+
+extern "C" {
+    fn s2_validate(
+        l1_pa: u64,
+        l2_code_pa: u64,
+        l2_data_pa: u64,
+        l3_data_pa: u64,
+        l2_sup_pa: u64,
+        l2_dev_pa: u64,
+        has_image: u64,
+        guest_image_pa: u64,
+        data_ipa_base: u64,
+        data_pa_base: u64,
+        frame_size: u64,
+        sup_ipa_base: u64,
+        sup_pa_base: u64,
+        device_base: u64,
+        device_len: u64,
+        sup_wx_exempt: u64,
+        sup_frames: u64,
+        values: *mut u64,
+    ) -> u32;
+
+    fn s2_encode(
+        arena: *mut u64,
+        arena_len: usize,
+        base: *const u8,
+        base_len: usize,
+        sup: *const u8,
+        sup_len: usize,
+        l1_pa: u64,
+        l2_code_pa: u64,
+        l2_data_pa: u64,
+        l3_data_pa: u64,
+        l2_sup_pa: u64,
+        l2_dev_pa: u64,
+        has_image: u64,
+        guest_image_pa: u64,
+        data_ipa_base: u64,
+        data_pa_base: u64,
+        frame_size: u64,
+        sup_ipa_base: u64,
+        sup_pa_base: u64,
+        device_base: u64,
+        device_len: u64,
+        sup_wx_exempt: u64,
+        sup_frames: u64,
+        values: *mut u64,
+    ) -> u32;
+}
+
+/// Calls a function with a layout as its parameters, between those before and after it.
+macro_rules! with_layout {
+    ($function:ident, [$($before:expr),*], $fields:expr, $values:expr) => {{
+        let [l1, l2_code, l2_data, l3_data, l2_sup, l2_dev, rest @ ..] = $fields;
+        let [has_image, image, data_ipa, data_pa, frame_size, rest @ ..] = rest;
+        let [sup_ipa, sup_pa, device, device_len, exempt, sup_frames] = rest;
+        $function(
+            $($before,)* l1, l2_code, l2_data, l3_data, l2_sup, l2_dev, has_image, image, data_ipa,
+            data_pa, frame_size, sup_ipa, sup_pa, device, device_len, exempt, sup_frames, $values,
+        )
+    }};
+}
+
+pub fn validate(fields: &Fields) -> Outcome {
+    // SAFETY: `s2_validate` writes eight values.
+    outcome(|values| unsafe { with_layout!(s2_validate, [], *fields, values) })
+}
+
+/// The reply to a scene. It fails if the call has changed a map, or what stands around what it was
+/// lent.
+pub fn encode(scene: &Scene) -> Encoded {
+    let mut arena = Fenced::new(&scene.arena, UNWRITTEN);
+    let mut base = Fenced::new(&scene.base, NO_PERMISSION);
+    let mut sup = Fenced::new(&scene.sup, NO_PERMISSION);
+    // SAFETY: the arena and each map are as long as is said, and eight values are written. The maps
+    // may be written through, so that a store shows below.
+    let outcome = outcome(|values| unsafe {
+        with_layout!(
+            s2_encode,
+            [
+                arena.as_mut_ptr(),
+                scene.arena.len(),
+                base.as_mut_ptr(),
+                scene.base.len(),
+                sup.as_mut_ptr(),
+                scene.sup.len()
+            ],
+            scene.fields,
+            values
+        )
+    });
+    let unchanged = base.lent() == Some(&scene.base[..]) && sup.lent() == Some(&scene.sup[..]);
+    assert!(unchanged, "s2_encode stores into the maps of {scene}");
+    match arena.lent() {
+        Some(arena) => Encoded {
+            outcome,
+            arena: arena.to_vec(),
+        },
+        None => panic!("s2_encode stores around the arena of {scene}"),
+    }
+}
