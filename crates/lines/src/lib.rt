@@ -43,15 +43,21 @@ fn digit(c: u8) -> u64
 }
 
 // Whether it was written.
-pub fn print_line(out: [u64; 8]) -> bool {
-    for i in 0..7 {
-        if !print_number(out[i], b" ") {
+pub fn print_line(out: &[u64]) -> bool {
+    for i in 0..out.len() {
+        if !print_number(out[i], i + 1 == out.len()) {
             return false;
         }
     }
-    print_number(out[7], b"\n")
+    true
 }
 
-fn print_number(n: u64, end: &[u8; 1]) -> bool {
-    io::print_hex(STDOUT_FILENO, n, 16) && io::write_all(STDOUT_FILENO, end)
+fn print_number(n: u64, last: bool) -> bool {
+    if !io::print_hex(STDOUT_FILENO, n, 16) {
+        return false;
+    }
+    if last {
+        return io::write_all(STDOUT_FILENO, b"\n");
+    }
+    io::write_all(STDOUT_FILENO, b" ")
 }

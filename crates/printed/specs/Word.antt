@@ -20,6 +20,7 @@ abbrev pub digits : ℕ → ℕ → List ℕ
 digits zero n = []
 digits (suc k) n = digits k (n / 16) ++ (glyph (n % 16) ∷ [])
 
+-- with one space between, ended by a line feed
 abbrev pub wordLine : ℕ → ℕ → ℕ → List ℕ
 wordLine table index word =
     digits 1 table ++ (space ∷ []) ++ digits 3 index ++ (space ∷ []) ++ digits 16 word ++ (lineFeed ∷ [])

@@ -24,5 +24,6 @@ fn replay_line() -> bool {
         };
         x[i] = n;
     }
-    lines::print_line(probe::answer((op % 0x1_0000_0000) as u32, &x))
+    let answer = probe::answer((op % 0x1_0000_0000) as u32, &x);
+    lines::print_line(&answer)
 }

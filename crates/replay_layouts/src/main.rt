@@ -1,5 +1,6 @@
-// Replays the Rust's recorded answers on layouts. A line of the input is the 17 numbers of a layout; the port's eight answers are
+// Replays the Rust's recorded answers on layouts. A line of the input is the 17 numbers of a layout; the port's nine answers are
 // printed in the same form, and must be the Rust's, which are the expected output.
+use layout::Layout;
 use lines::Read;
 
 // More lines than any recording has: a proved loop has to end.
@@ -21,5 +22,6 @@ fn replay_line() -> bool {
         };
         x[i] = n;
     }
-    lines::print_line(probe_layouts::answer(&x))
+    let answer = validate::validate(Layout::of(&x)).words();
+    lines::print_line(&answer)
 }

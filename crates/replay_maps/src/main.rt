@@ -1,8 +1,9 @@
 // Replays the Rust's recorded answers on leaf maps. A line of the input is a call in 16 numbers: which of the three it is, the domain,
-// the span, base and super, four edges, five frames and two grants. The port's eight answers are printed in the same form, after a
+// the span, base and super, four edges, five frames and two grants. The port's nine answers are printed in the same form, after a
 // filling with both maps, and must be the Rust's, which are the expected output.
 use lines::Read;
 use p2m::Span;
+use refusal::Verdict;
 
 // More lines than any recording has: a proved loop has to end.
 const LINES: u32 = 1_000_000;
@@ -37,7 +38,7 @@ fn fill(x: &[u64; 16]) -> bool {
     let frames = frames(x);
     let dom = (x[1] % 65536) as u16;
     let verdict = leafmap::leaf_map_from_edges(&edges, &frames, dom, &mut base, &mut sup);
-    lines::print_line(verdict.words()) && print_map(base) && print_map(sup)
+    print_answer(verdict) && print_map(base) && print_map(sup)
 }
 
 fn authorized(x: &[u64; 16]) -> bool {
@@ -46,7 +47,7 @@ fn authorized(x: &[u64; 16]) -> bool {
     let grants = [grant(x[14]), grant(x[15])];
     let dom = (x[1] % 65536) as u16;
     let verdict = authority::check_authorized_with(dom, &leaves, &frames, &grants);
-    lines::print_line(verdict.words())
+    print_answer(verdict)
 }
 
 fn exact(x: &[u64; 16]) -> bool {
@@ -55,7 +56,7 @@ fn exact(x: &[u64; 16]) -> bool {
     let frames = frames(x);
     let dom = (x[1] % 65536) as u16;
     let verdict = exact::check_exact(dom, &leaves, span(x[2]), &edges, &frames);
-    lines::print_line(verdict.words())
+    print_answer(verdict)
 }
 
 fn span(n: u64) -> Span {
@@ -120,8 +121,13 @@ fn bytes(n: u64) -> [u8; 8] {
     ]
 }
 
+fn print_answer(verdict: Verdict) -> bool {
+    let answer = verdict.words();
+    lines::print_line(&answer)
+}
+
 fn print_map(map: [u8; 8]) -> bool {
-    lines::print_line([
+    let entries = [
         map[0] as u64,
         map[1] as u64,
         map[2] as u64,
@@ -130,5 +136,6 @@ fn print_map(map: [u8; 8]) -> bool {
         map[5] as u64,
         map[6] as u64,
         map[7] as u64,
-    ])
+    ];
+    lines::print_line(&entries)
 }

@@ -1,14 +1,14 @@
 -- `print_line` is safe and ends.
-use Prim.Native.Nat.{_≤_, _-_}
+use Prim.Native.Nat.{_-_}
 use borrow.Author.Needs.{needs}
 use Rattle.lines.proofs.print_line.Statement.{statement}
 use Rattle.lines.proofs.print_line.Tie as tie
 
 abbrev Inv-loop : tie.InvT-loop
-Inv-loop out i₀ t4 t5 i = i ≤ 7
+Inv-loop out i₀ i-end i = Unit {0}
 
 abbrev μ-loop : tie.MeasureT-loop
-μ-loop out i₀ t4 t5 i = 7 - i
+μ-loop out i₀ i-end i = i-end - i
 
 loop-holds : tie.Need-loop-holds Inv-loop μ-loop
 loop-holds c = search needs
@@ -16,8 +16,11 @@ loop-holds c = search needs
 mul-print-number : tie.Need-mul-print-number Inv-loop μ-loop
 mul-print-number c = search needs
 
-array-read-print-number : tie.Need-array-read-print-number Inv-loop μ-loop
-array-read-print-number c = search needs
+shared-slice-read-print-number : tie.Need-shared-slice-read-print-number Inv-loop μ-loop
+shared-slice-read-print-number c = search needs
+
+add-print-number : tie.Need-add-print-number Inv-loop μ-loop
+add-print-number c = search needs
 
 print-number-requires : tie.Need-print-number-requires Inv-loop μ-loop
 print-number-requires c κs = search needs
@@ -34,12 +37,6 @@ loop-less c = search needs
 loop-again : tie.Need-loop-again Inv-loop μ-loop
 loop-again c = search needs
 
-array-read-print-number-2 : tie.Need-array-read-print-number-2 Inv-loop μ-loop
-array-read-print-number-2 c = search needs
-
-print-number-requires-2 : tie.Need-print-number-requires-2 Inv-loop μ-loop
-print-number-requires-2 c κs = search needs
-
 returns-2 : tie.Need-returns-2 Inv-loop μ-loop
 returns-2 c = search needs
 
@@ -51,12 +48,11 @@ print-line-spec =
     μ-loop
     loop-holds
     mul-print-number
-    array-read-print-number
+    shared-slice-read-print-number
+    add-print-number
     print-number-requires
     returns
     add-i
     loop-less
     loop-again
-    array-read-print-number-2
-    print-number-requires-2
     returns-2)

@@ -58,6 +58,9 @@ cast-answer c = search needs
 answer-requires : tie.Need-answer-requires Inv-loop μ-loop
 answer-requires c κs = search needs
 
+slice-aggregate-print-line : tie.Need-slice-aggregate-print-line Inv-loop μ-loop
+slice-aggregate-print-line c = search needs
+
 print-line-requires : tie.Need-print-line-requires Inv-loop μ-loop
 print-line-requires c κs = search needs
 
@@ -86,5 +89,6 @@ replay-line-spec =
     loop-again
     cast-answer
     answer-requires
+    slice-aggregate-print-line
     print-line-requires
     returns-3)

@@ -40,8 +40,17 @@ loop-less c = search needs
 loop-again : tie.Need-loop-again Inv-loop μ-loop
 loop-again c = search needs
 
-answer-requires : tie.Need-answer-requires Inv-loop μ-loop
-answer-requires c κs = search needs
+of-requires : tie.Need-of-requires Inv-loop μ-loop
+of-requires c κs = search needs
+
+validate-requires : tie.Need-validate-requires Inv-loop μ-loop
+validate-requires c κs = search needs
+
+words-requires : tie.Need-words-requires Inv-loop μ-loop
+words-requires c κs = search needs
+
+slice-aggregate-print-line : tie.Need-slice-aggregate-print-line Inv-loop μ-loop
+slice-aggregate-print-line c = search needs
 
 print-line-requires : tie.Need-print-line-requires Inv-loop μ-loop
 print-line-requires c κs = search needs
@@ -65,6 +74,9 @@ replay-line-spec =
     add-i
     loop-less
     loop-again
-    answer-requires
+    of-requires
+    validate-requires
+    words-requires
+    slice-aggregate-print-line
     print-line-requires
     returns-2)
