@@ -7,27 +7,46 @@ export HV_SRC ?= ../shared/docs/src
 
 JUDGE = cargo run --quiet --release --offline --manifest-path oracle/Cargo.toml -p judge --
 
-.PHONY: run test fmt compare compare-long record libraries
+.PHONY: run test fmt header scenes compare compare-long record libraries
 
 run:
 	@mkdir -p target
-	@rt check words >target/run.log 2>&1 || { cat target/run.log; exit 1; }
-	@target/bin/words
+	@rt check s2dump >target/run.log 2>&1 || { cat target/run.log; exit 1; }
+	@target/bin/s2dump <scenes/S.txt
 
 test:
 	@rt fmt --check
-	@$(MAKE) --no-print-directory compare
+	@$(MAKE) --no-print-directory header scenes compare
 	@exec rt ci
 
 fmt:
 	@rt fmt
 	@cargo fmt --all --manifest-path oracle/Cargo.toml
 
+# The C header declares what the static library exports.
+header:
+	@mkdir -p target
+	@$(CC) -std=c99 -Wall -Wextra -Werror -fsyntax-only -x c include/dervhalt_s2.h
+	@awk -f tools/prototypes.awk crates/s2/src/lib.rt >target/exported
+	@$(CC) -E -P include/dervhalt_s2.h | tr '\n' ' ' | tr ';' '\n' | sed 's/  */ /g; s/^ //; s/( /(/g' | \
+	    grep ' s2_' >target/declared
+	@diff target/exported target/declared
+	@echo "header: $$(wc -l <target/declared) calls as they are exported"
+
+# What the dump prints of each scene.
+scenes:
+	@mkdir -p target
+	@rt check s2dump >target/scenes.log 2>&1 || { cat target/scenes.log; exit 1; }
+	@for scene in scenes/*.txt; do \
+	    target/bin/s2dump <$$scene | cmp - $${scene%.txt}.out || { echo "$$scene prints something else"; exit 1; }; \
+	done
+	@echo "scenes: $$(ls scenes/*.txt | wc -l) printed as they must be"
+
 # The port beside the Rust. Without the originals, rt ci still replays their recorded answers.
 compare:
 	@if [ -d "$(HV_SRC)/hv-s2" ]; then \
 	    $(MAKE) --no-print-directory libraries && \
-	    $(JUDGE) compare && $(JUDGE) self-test && $(JUDGE) check-record crates; \
+	    $(JUDGE) compare && $(JUDGE) self-test && $(JUDGE) check-record crates && $(JUDGE) check-scenes scenes; \
 	else \
 	    echo "no Rust originals in $(HV_SRC): the comparison was not run"; \
 	fi
@@ -35,12 +54,12 @@ compare:
 compare-long: libraries
 	@$(JUDGE) compare --long
 
-# The Rust's answers that the programs replay, replay_layouts and replay_maps must print.
+# The Rust's answers: what the replays must print, and the dump of each scene.
 record: libraries
 	@$(JUDGE) record crates
+	@$(JUDGE) scenes scenes
 
 libraries:
 	@mkdir -p target
-	@{ rt check probe probe_layouts probe_maps && \
-	    rt staticlib probe && rt staticlib probe_layouts && rt staticlib probe_maps; } \
+	@{ rt check probe s2 s2dump && rt staticlib probe && rt staticlib s2; } \
 	    >target/staticlib.log 2>&1 || { cat target/staticlib.log; exit 1; }

@@ -115,37 +115,37 @@ module _
     (t f n m : ℕ) (word : ℕ → ℕ) (grown : (p : ℕ) → n ≤ p → p < m → word p ≡ 0) (shrunk : (p : ℕ) → m ≤ p → p < n → word p ≡ 0)
     (i : ℕ)
   where
-  pub resized : wordAt (run t f n word) i ≡ wordAt (run t f m word) i
-  resized = by-table (eqb (tableOf i) t) refl
-    where
-      by-place :
-          tableOf i ≡ t → f ≤ indexOf i → (a b : Bool) →
-          ltb (indexOf i) (f + n) ≡ a → ltb (indexOf i) (f + m) ≡ b → wordAt (run t f n word) i ≡ wordAt (run t f m word) i
-      by-place e lo true true p q =
-          inside t f n word i e lo (ltb-true _ _ p) ∙ sym (inside t f m word i e lo (ltb-true _ _ q))
-      by-place e lo true false p q =
-          let h = ltb-true (indexOf i) (f + n) p in
-          let k = ltb-false (indexOf i) (f + m) q in
-          inside t f n word i e lo h
-          ∙ shrunk (indexOf i - f) (omega (arith, lo, k)) (omega (arith, lo, h))
-          ∙ sym (past t f m word i k)
-      by-place e lo false true p q =
-          let h = ltb-false (indexOf i) (f + n) p in
-          let k = ltb-true (indexOf i) (f + m) q in
-          past t f n word i h
-          ∙ sym (grown (indexOf i - f) (omega (arith, lo, h)) (omega (arith, lo, k)))
-          ∙ sym (inside t f m word i e lo k)
-      by-place e lo false false p q = past t f n word i (ltb-false _ _ p) ∙ sym (past t f m word i (ltb-false _ _ q))
+    pub resized : wordAt (run t f n word) i ≡ wordAt (run t f m word) i
+    resized = by-table (eqb (tableOf i) t) refl
+      where
+        by-place :
+            tableOf i ≡ t → f ≤ indexOf i → (a b : Bool) →
+            ltb (indexOf i) (f + n) ≡ a → ltb (indexOf i) (f + m) ≡ b → wordAt (run t f n word) i ≡ wordAt (run t f m word) i
+        by-place e lo true true p q =
+            inside t f n word i e lo (ltb-true _ _ p) ∙ sym (inside t f m word i e lo (ltb-true _ _ q))
+        by-place e lo true false p q =
+            let h = ltb-true (indexOf i) (f + n) p in
+            let k = ltb-false (indexOf i) (f + m) q in
+            inside t f n word i e lo h
+            ∙ shrunk (indexOf i - f) (omega (arith, lo, k)) (omega (arith, lo, h))
+            ∙ sym (past t f m word i k)
+        by-place e lo false true p q =
+            let h = ltb-false (indexOf i) (f + n) p in
+            let k = ltb-true (indexOf i) (f + m) q in
+            past t f n word i h
+            ∙ sym (grown (indexOf i - f) (omega (arith, lo, h)) (omega (arith, lo, k)))
+            ∙ sym (inside t f m word i e lo k)
+        by-place e lo false false p q = past t f n word i (ltb-false _ _ p) ∙ sym (past t f m word i (ltb-false _ _ q))
 
-      by-start : tableOf i ≡ t → (b : Bool) → leb f (indexOf i) ≡ b → wordAt (run t f n word) i ≡ wordAt (run t f m word) i
-      by-start e true p =
-          by-place e (leb-true f (indexOf i) p) (ltb (indexOf i) (f + n)) (ltb (indexOf i) (f + m)) refl refl
-      by-start e false p =
-          let h = leb-false f (indexOf i) p in before t f n word i h ∙ sym (before t f m word i h)
+        by-start : tableOf i ≡ t → (b : Bool) → leb f (indexOf i) ≡ b → wordAt (run t f n word) i ≡ wordAt (run t f m word) i
+        by-start e true p =
+            by-place e (leb-true f (indexOf i) p) (ltb (indexOf i) (f + n)) (ltb (indexOf i) (f + m)) refl refl
+        by-start e false p =
+            let h = leb-false f (indexOf i) p in before t f n word i h ∙ sym (before t f m word i h)
 
-      by-table : (b : Bool) → eqb (tableOf i) t ≡ b → wordAt (run t f n word) i ≡ wordAt (run t f m word) i
-      by-table true e = by-start (eqb-true _ _ e) (leb f (indexOf i)) refl
-      by-table false e = other t f n word i e ∙ sym (other t f m word i e)
+        by-table : (b : Bool) → eqb (tableOf i) t ≡ b → wordAt (run t f n word) i ≡ wordAt (run t f m word) i
+        by-table true e = by-start (eqb-true _ _ e) (leb f (indexOf i)) refl
+        by-table false e = other t f n word i e ∙ sym (other t f m word i e)
 
 -- a window's runs, by its presence
 module _ (w : Window) (pa : ℕ) (below : List Run) where

@@ -82,6 +82,7 @@ fn encode_data(arena: &mut [u64], base: &[u8], l: Layout)
     put(arena, 3, below, arena::table_word(l.l3_data_pa));
     put_pages(arena, base, l.data_pa_base);
 }
+
 fn encode_super(arena: &mut [u64], sup: &[u8], l: Layout)
     requires { ⌜ length (now arena) ≡ arenaLength ⌝ }
     requires { ⌜ SupersFit l (now sup) ⌝ }
@@ -141,7 +142,12 @@ fn put_supers(arena: &mut [u64], sup: &[u8], from: usize, pa: u64, exempt: bool)
     ensures { λ _. ⌜ Over (stored (run 5 from (length (now (sup .entry))) (superAt pa exempt (now (sup .entry))) ∷ [])) (now (arena .entry)) (now (arena .exit)) ⌝ }
 {
     for m in 0..sup.len() {
-        put(arena, 5, from + m, arena::block_word(pa, m as u32, exempt, sup[m]));
+        put(
+            arena,
+            5,
+            from + m,
+            arena::block_word(pa, m as u32, exempt, sup[m]),
+        );
     }
 }
 

@@ -36,9 +36,12 @@ layoutOf x =
       «sup_frames» = getD x 16 0;
     }
 
+abbrev pub imageField : ℕ
+imageField = 7
+
 -- where field n, 1 to 10, stands in that list
 abbrev pub fieldAt : ℕ → ℕ
-fieldAt n = pick (ltb n 7) (n - 1) n
+fieldAt n = pick (ltb n imageField) (n - 1) n
 
 abbrev pub tableAt : ℕ → ℕ → Table
 tableAt n pa = record { code = n; pa = pa }

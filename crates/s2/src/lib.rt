@@ -66,7 +66,10 @@ pub extern "C" fn s2_fill(
 ) -> u32
     ensures { λ r. ⌜ ((r ∷ now (values .exit)) ∷ now (base .exit) ∷ now (sup .exit) ∷ []) ≡ fillAnswer (now (edges .entry)) (now (frames .entry)) dom (now (base .entry)) (now (sup .entry)) ⌝ }
 {
-    answer(leafmap::leaf_map_from_edges(edges, frames, dom, base, sup), values)
+    answer(
+        leafmap::leaf_map_from_edges(edges, frames, dom, base, sup),
+        values,
+    )
 }
 
 // Rows 1 to 14. A refusal leaves every word of the arena as found.
@@ -115,7 +118,10 @@ pub extern "C" fn s2_encode(
         sup_wx_exempt,
         sup_frames,
     ];
-    answer(encode::encode(arena, base, sup, Layout::of(&numbers)), values)
+    answer(
+        encode::encode(arena, base, sup, Layout::of(&numbers)),
+        values,
+    )
 }
 
 // Rows 2, 3, 23 and 24.
@@ -129,7 +135,10 @@ pub extern "C" fn s2_authorized(
 ) -> u32
     ensures { λ r. ⌜ (r ∷ now (values .exit)) ≡ authorizedAnswer dom (now (map .entry)) (now (frames .entry)) (now (grants .entry)) ⌝ }
 {
-    answer(authority::check_authorized_with(dom, map, frames, grants), values)
+    answer(
+        authority::check_authorized_with(dom, map, frames, grants),
+        values,
+    )
 }
 
 // Rows 2, 3 and 25.

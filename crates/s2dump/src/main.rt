@@ -3,7 +3,7 @@ use layout::Layout;
 use libc::STDIN_FILENO;
 use libc::STDOUT_FILENO;
 use refusal::Verdict;
-use scene::Line;
+use scene_line::Line;
 ghost use Prim.Native.Nat.{_≤_};
 ghost use lib.ListN.{length};
 ghost use Rattle.s2dump.specs.Taken.{Fits};
@@ -97,7 +97,7 @@ fn take_byte(
 
 // Whether the line said something, which is then set.
 fn set(line: &[u8], numbers: &mut [u64], base: &mut [u8], sup: &mut [u8]) -> bool {
-    let said = scene::line_of(line);
+    let said = scene_line::line_of(line);
     if let Line::Bad = said {
         return false;
     }

@@ -1,11 +1,12 @@
 -- A scene: a layout's numbers and both maps, as its lines have set them; unset fields are zero, an unset image absent.
 use Prim.Native.Nat.{ℕ, _-_}
 use mathlib.Core.List.{List}
-use lib.Dec.{eqb, ltb}
+use lib.Dec.{eqb}
 use lib.ListN.{set}
 use Rattle.fields.specs.Named.{pick}
-use Rattle.scene.specs.declared.Line.{Line}
-use Rattle.scene.specs.declared.Line.the-variants.{Field, Base, Super, Bad}
+use Rattle.layout.specs.Layout.{imageField, fieldAt}
+use Rattle.scene_line.specs.declared.Line.{Line}
+use Rattle.scene_line.specs.declared.Line.the-variants.{Field, Base, Super, Bad}
 
 pub record Scene : Type 0 where
   pub numbers : List ℕ
@@ -15,15 +16,10 @@ pub record Scene : Type 0 where
 abbrev pub scene : List ℕ → List ℕ → List ℕ → Scene
 scene numbers base sup = record { numbers = numbers; base = base; sup = sup }
 
--- the image is field 7, and whether there is one stands just before it
-abbrev pub image : ℕ
-image = 7
-
-abbrev pub placeOf : ℕ → ℕ
-placeOf n = pick (ltb n image) (n - 1) n
-
+-- whether there is an image stands just before it
 unfoldable pub withField : List ℕ → ℕ → ℕ → List ℕ
-withField numbers n value = set (pick (eqb n image) (set numbers (image - 1) 1) numbers) (placeOf n) value
+withField numbers n value =
+    set (pick (eqb n imageField) (set numbers (fieldAt imageField - 1) 1) numbers) (fieldAt n) value
 
 -- a later line replaces an earlier one
 abbrev pub applied : Scene → Line → Scene

@@ -62,9 +62,10 @@ put-supers-requires c κs =
     let s = v .before .before .before .before .before .before in
     let fit = s .pre .1 in
     let from = i .l2-index .ensures in
-    let slot : i .l2-index .result < entries = omega (arith, from) in
-    (v .put .ensures .long ∙ s .pre .0,
-    (fit .short, (slot, λ p h some. let k = fit .slots p h some in omega (arith, from, k))))
+    let slot : i .l2-index .result < entries = omega (arith, from) in (
+      v .put .ensures .long ∙ s .pre .0,
+      (fit .short, (slot, λ p h some. let k = fit .slots p h some in omega (arith, from, k))),
+    )
 
 same-length : tie.Need-same-length
 same-length c = search needs

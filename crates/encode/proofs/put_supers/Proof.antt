@@ -46,11 +46,18 @@ put-requires c κs =
     let h = c .before .before .before .before in
     let a = h .before .before .before .args in
     let p = h .before .before .before .pre in
-    let turn = c .before .before .before in
-    (h .loop .inv .long ∙ p .0, (omega arith, (omega arith, 
-    λ some.
-    p .1 .1 .1 (h .loop .m) (turn .loop-test .taken)
-    (λ z. some (c .block-word .ensures ∙ ap (λ (n : ℕ). leafFor n (blockTo (a .pa + h .loop .m * block) (a .exempt))) z)))))
+    let turn = c .before .before .before in (
+      h .loop .inv .long ∙ p .0,
+      (
+        omega arith,
+        (
+          omega arith,
+          λ some.
+              p .1 .1 .1 (h .loop .m) (turn .loop-test .taken)
+              (λ z. some (c .block-word .ensures ∙ ap (λ (n : ℕ). leafFor n (blockTo (a .pa + h .loop .m * block) (a .exempt))) z)),
+        ),
+      ),
+    )
 
 add-m : tie.Need-add-m Inv-loop μ-loop
 add-m c = search needs

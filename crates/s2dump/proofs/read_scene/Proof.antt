@@ -83,13 +83,14 @@ loop-again c =
     let k = v .take .kept in
     let inv = h .loop .inv in
     let line = k .1 .0 ∙ inv .2 in
-    let fits = subst (Fits _) (c .before .kept .given .1) (v .take .ensures) in
-    (omega (arith, fits, line),
-    r .read .kept .1 .0 ∙ inv .1,
-    line,
-    k .1 .1 .1 .0 ∙ inv .3,
-    k .1 .1 .1 .1 .0 ∙ inv .4,
-    k .1 .1 .1 .1 .1 .0 ∙ inv .5)
+    let fits = subst (Fits _) (c .before .kept .given .1) (v .take .ensures) in (
+      omega (arith, fits, line),
+      r .read .kept .1 .0 ∙ inv .1,
+      line,
+      k .1 .1 .1 .0 ∙ inv .3,
+      k .1 .1 .1 .1 .0 ∙ inv .4,
+      k .1 .1 .1 .1 .1 .0 ∙ inv .5,
+    )
 
 array-share-prefix-line : tie.Need-array-share-prefix-line Inv-loop μ-loop
 array-share-prefix-line c = search needs

@@ -59,12 +59,13 @@ loop-again c =
     let v = c .before .before .before .before .before .before .before .before .before .before .before in
     let h = v .before .before .before .before .before .before .before in
     let k = v .take-byte .kept in
-    let inv = h .loop .inv in
-    (subst (Fits _) (c .before .n .given .1) (v .take-byte .ensures),
-    k .1 .0 ∙ inv .1,
-    k .1 .1 .1 .0 ∙ inv .2,
-    k .1 .1 .1 .1 .0 ∙ inv .3,
-    k .1 .1 .1 .1 .1 .0 ∙ inv .4)
+    let inv = h .loop .inv in (
+      subst (Fits _) (c .before .n .given .1) (v .take-byte .ensures),
+      k .1 .0 ∙ inv .1,
+      k .1 .1 .1 .0 ∙ inv .2,
+      k .1 .1 .1 .1 .0 ∙ inv .3,
+      k .1 .1 .1 .1 .1 .0 ∙ inv .4,
+    )
 
 same-length-5 : tie.Need-same-length-5 Inv-loop μ-loop
 same-length-5 c = search needs

@@ -9,14 +9,15 @@ use borrow.Author.Needs.{needs}
 use borrow.Author.Tests.{eq-eqb, ne-eqb}
 use denote.Ref.{now}
 use Rattle.fields.specs.Named.{pick}
-use Rattle.scene.specs.Scene.{image, withField}
+use Rattle.layout.specs.Layout.{imageField}
+use Rattle.scene.specs.Scene.{withField}
 use Rattle.scene.proofs.put_field.Statement.{statement}
 use Rattle.scene.proofs.put_field.Tie as tie
 
 marked :
     (c : tie.Joined1) →
     let a = c .before .before .args in
-    c .if1 .numbers ≡ pick (eqb (a .field) image) (set (now (a .numbers)) 6 1) (now (a .numbers))
+    c .if1 .numbers ≡ pick (eqb (a .field) imageField) (set (now (a .numbers)) 6 1) (now (a .numbers))
 marked c =
     ⊎-elim (λ w. w .5 ∙ w .2 .ensures ∙ rw (eq-eqb _ _ (w .0 .taken)))
     (λ w. w .1 ∙ rw (ne-eqb _ _ (w .0 .left)))

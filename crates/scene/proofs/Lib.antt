@@ -1,4 +1,0 @@
-pub mod Digits
-pub mod Lines
-pub mod Part
-pub mod Spaces

@@ -1,0 +1,115 @@
+/* Stage-2 translation tables for board code: the calls of libs2.a.
+ *
+ * A call returns 0 where it accepts, else the number of document 01's row that refuses. `values` always has all its eight places
+ * written: the values that the row carries, in document 01's order, and zeros after them. An optional value is 1 and the value, or 0
+ * and 0. A call that refuses changes nothing but `values`; s2_fill alone leaves in both maps, on 15 and 16, the edges before the
+ * failing one, and on 17 all edges.
+ *
+ * Nothing is asked of the numbers. Each pointer is aligned, not null, and to as many elements as the length beside it says; what a call
+ * may write overlaps nothing else that it is lent.
+ *
+ * row     carries
+ * 1, 2    nothing
+ * 3       map, position
+ * 4       base, length
+ * 5       frame_size
+ * 6       check, base, align
+ * 7       table, pa
+ * 8       count
+ * 9       l1 index, span
+ * 10      window, output base
+ * 11      l1 index
+ * 12      nothing
+ * 13      first table, second table
+ * 14      position
+ * 15      parent
+ * 16      child, capacity
+ * 17      frame
+ * 23      domain, frame, owner (optional), permission
+ * 24      domain, frame, owner
+ * 25      domain, frame, mapped, expected
+ *
+ * Codes: maps 1 base, 2 super (the one map of s2_authorized is 1); windows 1 image, 2 data, 3 super, 4 device; tables 1 l1,
+ * 2 l2_code, 3 l2_data, 4 l3_data, 5 l2_sup, 6 l2_dev; checks 1 data ipa, 2 data pa, 3 super ipa, 4 super pa, 5 image, 6 device.
+ * A permission, and an entry of a map, is 0 none, 1 Ro, 2 Rw, 3 Rx.
+ */
+#ifndef DERVHALT_S2_H
+#define DERVHALT_S2_H
+
+#include <stddef.h>
+#include <stdint.h>
+
+#ifdef __cplusplus
+extern "C" {
+#endif
+
+/* The words of an arena: tables 1 to 6 of 512 words each. */
+#define S2_ARENA_LEN 3072
+
+/* The most entries of a map. */
+#define S2_MAP_LEN 512
+
+/* A layout: document 01's sixteen fields in their order, with whether there is an image just before the image. Of `has_image` and
+ * `sup_wx_exempt`, zero is no and all else yes. */
+#define S2_LAYOUT \
+    uint64_t l1_pa, \
+    uint64_t l2_code_pa, \
+    uint64_t l2_data_pa, \
+    uint64_t l3_data_pa, \
+    uint64_t l2_sup_pa, \
+    uint64_t l2_dev_pa, \
+    uint64_t has_image, \
+    uint64_t guest_image_pa, \
+    uint64_t data_ipa_base, \
+    uint64_t data_pa_base, \
+    uint64_t frame_size, \
+    uint64_t sup_ipa_base, \
+    uint64_t sup_pa_base, \
+    uint64_t device_base, \
+    uint64_t device_len, \
+    uint64_t sup_wx_exempt, \
+    uint64_t sup_frames
+
+/* Whether the layout can be encoded: rows 4 to 12. */
+uint32_t s2_validate(S2_LAYOUT, uint64_t values[8]);
+
+/* Both maps from the domain's edges: rows 2 and 15 to 17. An edge is parent, slot, child, writable, leaf, execute, of which the last
+ * three are zero for no and all else for yes; a frame is owner and kind. */
+uint32_t s2_fill(
+    const uint32_t (*edges)[6], size_t edge_count,
+    const uint32_t (*frames)[2], size_t frame_count,
+    uint16_t dom,
+    uint8_t *base, size_t base_len,
+    uint8_t *sup, size_t sup_len,
+    uint64_t values[8]);
+
+/* The tables of a layout and two maps: rows 1 to 14. Tables 4 to 6 are cleared first; in 1 to 3 old words remain unless overwritten. */
+uint32_t s2_encode(
+    uint64_t *arena, size_t arena_len,
+    const uint8_t *base, size_t base_len,
+    const uint8_t *sup, size_t sup_len,
+    S2_LAYOUT,
+    uint64_t values[8]);
+
+/* Whether the domain may reach every frame that the map maps: rows 2, 3, 23 and 24. A grant is grantor, grantee, frame, writable. */
+uint32_t s2_authorized(
+    uint16_t dom,
+    const uint8_t *map, size_t map_len,
+    const uint32_t (*frames)[2], size_t frame_count,
+    const uint32_t (*grants)[4], size_t grant_count,
+    uint64_t values[8]);
+
+/* Whether the map is what the domain's edges give: rows 2, 3 and 25. Of `is_super`, zero is the base span and all else the super span. */
+uint32_t s2_exact(
+    uint16_t dom,
+    const uint8_t *map, size_t map_len,
+    uint32_t is_super,
+    const uint32_t (*edges)[6], size_t edge_count,
+    const uint32_t (*frames)[2], size_t frame_count,
+    uint64_t values[8]);
+
+#ifdef __cplusplus
+}
+#endif
+
+#endif
