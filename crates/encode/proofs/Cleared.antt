@@ -12,7 +12,7 @@ use Rattle.arena.proofs.Over.{over-as, over-same}
 use Rattle.arena.specs.Encoded.{tableOf, cleared}
 use Rattle.arena.specs.Over.{Over}
 use Rattle.fields.specs.Named.{pick}
-use Rattle.layout.specs.Size.{entries, arenaLength}
+use Rattle.layout.specs.Size.{entries}
 
 -- what is cleared of tables 4 to 6, up to word n
 abbrev pub clearedTo : ℕ → ℕ → ℕ → ℕ

@@ -8,7 +8,7 @@ use lib.Dec.{eqb, ltb}
 use lib.ListN.{length, getD, replicate, getD-replicate, length-replicate}
 use lib.Seq.{ext-getD}
 use borrow.Author.Tests.{eqb-true}
-use Rattle.arena.specs.Encoded.{Run, tableOf, overwrite, wordAt, stored, runsOf, cleared, encoded, target}
+use Rattle.arena.specs.Encoded.{Run, tableOf, overwrite, wordAt, stored, runsOf, cleared, encoded}
 use Rattle.fields.specs.Named.{pick}
 use Rattle.layout.specs.Size.{arenaLength}
 use Rattle.tables.specs.Arena.{OldWords, FromZeros, RefusedKeeps}

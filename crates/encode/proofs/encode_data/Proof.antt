@@ -1,17 +1,8 @@
 -- `encode_data` meets its contract: a word in each of tables 1 and 3, then the pages.
-use Prim.Native.Nat.{ℕ, _+_, _/_, _<_, _≤_}
-use mathlib.Core.Bool.{true}
-use mathlib.Core.List.{List, [], _∷_}
-use mathlib.Core.Path.{_≡_, sym, ap, _∙_}
-use native.Mathlib.Omega.{arith}
-use lib.ListN.{length, getD}
+use mathlib.Core.List.{[], _∷_}
 use borrow.Author.Needs.{needs}
-use denote.Ref.{now}
 use Rattle.arena.proofs.Over.{over-placed, over-append}
 use Rattle.arena.specs.Encoded.{dataRuns}
-use Rattle.layout.specs.Size.{entries, block}
-use Rattle.layout.specs.declared.Layout.{Layout}
-use Rattle.layout.specs.declared.Window.{Window}
 use Rattle.encode.proofs.encode_data.Statement.{statement}
 use Rattle.encode.proofs.encode_data.Tie as tie
 

@@ -1,17 +1,13 @@
 -- `encode_device` meets its contract: a word in table 1 and the blocks where there is a device window, else none.
-use Prim.Native.Nat.{ℕ, _+_, _/_, _<_, _≤_}
-use mathlib.Core.Bool.{true}
+use Prim.Native.Nat.{_/_}
 use mathlib.Core.List.{List, [], _∷_}
-use mathlib.Core.Path.{_≡_, sym, ap, _∙_}
-use mathlib.Core.Path.{refl}
+use mathlib.Core.Path.{sym, ap, _∙_, refl}
 use native.Mathlib.Omega.{arith}
-use lib.ListN.{length, getD}
 use borrow.Author.Needs.{needs}
-use denote.Ref.{now}
 use Rattle.arena.proofs.Over.{over-placed, over-from, over-runs, over-append, over-same}
 use Rattle.arena.proofs.Runs.{present, absent}
 use Rattle.arena.specs.Encoded.{Run, stored, windowRuns, deviceAt, deviceRun, deviceRuns}
-use Rattle.layout.specs.Size.{entries, block}
+use Rattle.layout.specs.Size.{block}
 use Rattle.layout.specs.Window.{slot, l2Slot}
 use Rattle.layout.specs.declared.Layout.{Layout}
 use Rattle.layout.specs.declared.Window.{Window}

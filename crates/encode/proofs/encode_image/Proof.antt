@@ -1,18 +1,11 @@
 -- `encode_image` meets its contract: two words where there is an image, else none.
-use Prim.Native.Nat.{ℕ, _+_, _/_, _<_, _≤_}
-use mathlib.Core.Bool.{true}
 use mathlib.Core.List.{List, [], _∷_}
-use mathlib.Core.Path.{_≡_, sym, ap, _∙_}
-use mathlib.Core.Path.{refl}
-use native.Mathlib.Omega.{arith}
-use lib.ListN.{length, getD}
+use mathlib.Core.Path.{sym, ap, _∙_, refl}
 use borrow.Author.Needs.{needs}
-use denote.Ref.{now}
 use Rattle.arena.proofs.Over.{over-placed, over-runs, over-append, over-same}
 use Rattle.arena.proofs.Runs.{present, absent}
 use Rattle.arena.specs.Encoded.{Run, one, stored, windowRuns, imageRuns}
 use Rattle.arena.specs.Word.{imageTo}
-use Rattle.layout.specs.Size.{entries, block}
 use Rattle.layout.specs.Window.{slot, l2Slot}
 use Rattle.layout.specs.declared.Layout.{Layout}
 use Rattle.layout.specs.declared.Window.{Window}

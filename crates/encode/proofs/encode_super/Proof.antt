@@ -1,15 +1,11 @@
 -- `encode_super` meets its contract: a word in table 1, then the supers, of which none is mapped at or past sup_frames.
-use Prim.Native.Nat.{_*_}
-use Prim.Native.Nat.{ℕ, _+_, _/_, _<_, _≤_}
+use Prim.Native.Nat.{_*_, ℕ, _+_, _<_, _≤_}
 use mathlib.Core.Bool.{Bool, true, false}
-use mathlib.Core.Bool.{true}
 use mathlib.Core.List.{List, [], _∷_}
-use mathlib.Core.Path.{_≡_, sym, ap, _∙_}
-use mathlib.Core.Path.{refl}
+use mathlib.Core.Path.{_≡_, ap, _∙_, refl}
 use native.Mathlib.Omega.{arith}
 use lib.Dec.{eqb}
-use lib.ListN.{List·getD-eq-default}
-use lib.ListN.{length, getD}
+use lib.ListN.{List·getD-eq-default, length, getD}
 use borrow.Author.Needs.{needs}
 use borrow.Author.Tests.{eqb-true, eqb-false}
 use denote.Ref.{now}
@@ -20,7 +16,6 @@ use Rattle.arena.specs.Word.{leafFor, blockTo}
 use Rattle.layout.specs.Size.{entries, block}
 use Rattle.layout.specs.Window.{l2Slot}
 use Rattle.layout.specs.declared.Layout.{Layout}
-use Rattle.layout.specs.declared.Window.{Window}
 use Rattle.encode.specs.Fits.{SupersFit}
 use Rattle.encode.proofs.encode_super.Statement.{statement}
 use Rattle.encode.proofs.encode_super.Tie as tie

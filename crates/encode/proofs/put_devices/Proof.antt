@@ -1,18 +1,12 @@
 -- `put_devices` meets its contract: m words of the run are stored.
-use Prim.Native.Nat.{ℕ, _+_, _-_, _*_, _≤_, _<_}
-use mathlib.Core.Bool.{Bool}
-use mathlib.Core.List.{List, [], _∷_}
-use mathlib.Core.Path.{_≡_, refl, sym, ap, _∙_}
+use Prim.Native.Nat.{ℕ, _-_, _≤_}
+use mathlib.Core.List.{[], _∷_}
+use mathlib.Core.Path.{_≡_, ap, _∙_}
 use native.Mathlib.Omega.{arith}
-use lib.ListN.{length, getD, List·getD-eq-default}
 use borrow.Author.Needs.{needs}
-use denote.Ref.{now}
 use Rattle.arena.proofs.Over.{over-none, over-more, over-run}
-use Rattle.arena.proofs.Runs.{resized}
-use Rattle.arena.specs.Encoded.{run, one, wordAt, stored, deviceAt}
+use Rattle.arena.specs.Encoded.{run, wordAt, stored, deviceAt}
 use Rattle.arena.specs.Over.{Over}
-use Rattle.arena.specs.Word.{leafFor, pageTo, blockTo}
-use Rattle.layout.specs.Size.{entries, page, block}
 use Rattle.encode.proofs.put_devices.Statement.{statement}
 use Rattle.encode.proofs.put_devices.Tie as tie
 

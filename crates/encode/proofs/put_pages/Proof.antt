@@ -1,18 +1,17 @@
 -- `put_pages` meets its contract: m words of the run are stored.
-use Prim.Native.Nat.{ℕ, _+_, _-_, _*_, _≤_, _<_}
-use mathlib.Core.Bool.{Bool}
+use Prim.Native.Nat.{ℕ, _+_, _-_, _*_, _≤_}
 use mathlib.Core.List.{List, [], _∷_}
-use mathlib.Core.Path.{_≡_, refl, sym, ap, _∙_}
+use mathlib.Core.Path.{_≡_, ap, _∙_}
 use native.Mathlib.Omega.{arith}
-use lib.ListN.{length, getD, List·getD-eq-default}
+use lib.ListN.{length, List·getD-eq-default}
 use borrow.Author.Needs.{needs}
 use denote.Ref.{now}
 use Rattle.arena.proofs.Over.{over-none, over-more, over-run}
 use Rattle.arena.proofs.Runs.{resized}
 use Rattle.arena.specs.Encoded.{run, one, wordAt, stored, pageAt}
 use Rattle.arena.specs.Over.{Over}
-use Rattle.arena.specs.Word.{leafFor, pageTo, blockTo}
-use Rattle.layout.specs.Size.{entries, page, block}
+use Rattle.arena.specs.Word.{leafFor, pageTo}
+use Rattle.layout.specs.Size.{entries, page}
 use Rattle.encode.proofs.put_pages.Statement.{statement}
 use Rattle.encode.proofs.put_pages.Tie as tie
 

@@ -1,11 +1,10 @@
 -- `answer` meets its contract: the nine words of the verdict.
 use Prim.Native.Nat.{ℕ}
 use mathlib.Core.List.{List}
-use mathlib.Core.Path.{_≡_, sym, ap, _∙_}
+use mathlib.Core.Path.{ap, _∙_}
 use lib.ListN.{getD}
 use borrow.Author.Needs.{needs}
 use Rattle.refusal.proofs.Words.{number-below, nine}
-use Rattle.refusal.specs.Outcome.{outcomeOf, outcomeWords}
 use Rattle.s2.proofs.answer.Statement.{statement}
 use Rattle.s2.proofs.answer.Tie as tie
 

@@ -1,12 +1,11 @@
 -- `s2_encode` meets its contract: each callee equals its definition.
-use mathlib.Core.Path.{_≡_, sym, ap, _∙_}
-use mathlib.Core.Path.{ap₂}
+use mathlib.Core.Path.{ap, _∙_, ap₂}
 use borrow.Author.Needs.{needs}
 use denote.Ref.{now}
 use Rattle.arena.proofs.Over.{over-as}
 use Rattle.encode.specs.Encoding.{left}
 use Rattle.layout.specs.Size.{outputLimit}
-use Rattle.refusal.specs.Outcome.{outcomeOf, outcomeWords}
+use Rattle.refusal.specs.Outcome.{outcomeWords}
 use Rattle.refusal.specs.Table.{first}
 use Rattle.rows.specs.Rows.{arenaGuardRows}
 use Rattle.s2.proofs.s2_encode.Statement.{statement}

@@ -1,13 +1,13 @@
 -- `s2_exact` meets its contract: each callee equals its definition.
 use Prim.Native.Nat.{ℕ}
 use mathlib.Core.List.{List, map}
-use mathlib.Core.Path.{_≡_, sym, ap, _∙_}
+use mathlib.Core.Path.{ap, _∙_}
 use borrow.Author.Needs.{needs}
 use denote.Ref.{now}
 use Rattle.edge.specs.Edge.{edgeOf}
 use Rattle.exact.specs.Exact.{exactRows}
 use Rattle.p2m.specs.declared.Span.{Span}
-use Rattle.refusal.specs.Outcome.{outcomeOf, outcomeWords}
+use Rattle.refusal.specs.Outcome.{outcomeWords}
 use Rattle.refusal.specs.Table.{first}
 use Rattle.s2.proofs.s2_exact.Statement.{statement}
 use Rattle.s2.proofs.s2_exact.Tie as tie

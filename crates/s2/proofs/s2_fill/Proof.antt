@@ -1,8 +1,7 @@
 -- `s2_fill` meets its contract: each callee equals its definition.
 use mathlib.Core.List.{[], _∷_}
-use mathlib.Core.Path.{_≡_, sym, ap, _∙_}
+use mathlib.Core.Path.{ap, _∙_}
 use borrow.Author.Needs.{needs}
-use Rattle.refusal.specs.Outcome.{outcomeOf, outcomeWords}
 use Rattle.s2.specs.Answers.{fillingWords}
 use Rattle.s2.proofs.s2_fill.Statement.{statement}
 use Rattle.s2.proofs.s2_fill.Tie as tie

@@ -1,5 +1,4 @@
 -- `span_numbered` meets its contract.
-use borrow.Author.Needs.{needs}
 use borrow.Author.Tests.{eq-eqb, ne-eqb}
 use Rattle.s2.proofs.span_numbered.Statement.{statement}
 use Rattle.s2.proofs.span_numbered.Tie as tie
