@@ -4,14 +4,15 @@ use mathlib.Core.Bool.{Bool, true, false, _&&_}
 use mathlib.Core.List.{List, [], _∷_}
 use mathlib.Core.Path.{_≡_, refl, sym, ap, _∙_}
 use native.Mathlib.Omega.{arith}
-use lib.Dec.{eqb, ltb}
-use borrow.Author.Tests.{eqb-true, eqb-false, ltb-true, ltb-false, ne-eqb}
+use lib.Dec.{eqb, leb, ltb}
+use borrow.Author.Tests.{eqb-true, eqb-false, leb-true, ltb-true, ltb-false, ne-eqb}
 use Rattle.fields.specs.Named.{pick}
 use Rattle.layout.specs.Size.{block}
 use Rattle.layout.specs.Window.{imageWindow, deviceWindow, l1Slot, l2Slot, slot}
 use Rattle.layout.specs.declared.Layout.{Layout}
 use Rattle.layout.specs.declared.Window.{Window}
-use Rattle.arena.specs.Encoded.{Run, run, one, tableOf, indexOf, wordAt, overwrite, stored, deviceAt, pageRun, superRun, deviceRun, imageRuns, dataRuns, superRuns, deviceRuns, runsOf, cleared, encoded, target}
+use Rattle.arena.specs.Encoded.{Run, run, one, tableOf, indexOf, wordAt, overwrite, stored}
+use Rattle.arena.specs.Encoded.{deviceAt, pageRun, superRun, deviceRun, imageRuns, dataRuns, superRuns, deviceRuns, runsOf, cleared, encoded, target}
 use Rattle.arena.specs.Word.{tableTo, imageTo}
 use Rattle.arena.proofs.Runs.{other, before, past, inside, empty}
 
@@ -35,12 +36,19 @@ only-stored (r ∷ rs) t i old e = go (eqb t (r .table)) refl (λ x. only-stored
         ap (λ w. stored rs i (overwrite old w)) (other (r .table) (r .from) (r .count) (r .word) i (ap (λ x. eqb x (r .table)) e ∙ q))
         ∙ rest old
 
-overwrite-zero : (w : ℕ) → overwrite 0 w ≡ w
+pub overwrite-zero : (w : ℕ) → overwrite 0 w ≡ w
 overwrite-zero w = go (eqb w 0) refl
   where
     go : (b : Bool) → eqb w 0 ≡ b → pick b 0 w ≡ w
     go true e = sym (eqb-true w 0 e)
     go false e = refl
+
+pub cleared-zero : (i : ℕ) → cleared i 0 ≡ 0
+cleared-zero i = go (ltb 3 (tableOf i))
+  where
+    go : (b : Bool) → _≡_ {A = ℕ} (pick b 0 0) 0
+    go true = refl
+    go false = refl
 
 -- one word over another: it stands at its own index
 single :
@@ -102,46 +110,66 @@ module _ (l : Layout) where
   dataAt j = pick (eqb (l2Slot (l .«data_ipa_base»)) j) (tableTo (l .«l3_data_pa»)) 0
 
 module _ (l : Layout) (base sup : List ℕ) (i : ℕ) where
-  zeros : cleared i 0 ≡ 0
-  zeros = go (ltb 3 (tableOf i))
-    where
-      go : (b : Bool) → _≡_ {A = ℕ} (pick b 0 0) 0
-      go true = refl
-      go false = refl
-
   of-table : (t : ℕ) → tableOf i ≡ t → target l base sup i ≡ stored (only t (runsOf l base sup)) i 0
   unfolding encoded
-  of-table t e = ap (stored (runsOf l base sup) i) zeros ∙ only-stored (runsOf l base sup) t i 0 e
+  of-table t e = ap (stored (runsOf l base sup) i) (cleared-zero i) ∙ only-stored (runsOf l base sup) t i 0 e
+
+  -- slot and table address of each window's level 1 word
+  abbrev image-entry : ℕ × ℕ
+  image-entry = (slot (image l), l .«l2_code_pa»)
+
+  abbrev data-entry : ℕ × ℕ
+  data-entry = (l1Slot (l .«data_ipa_base»), l .«l2_data_pa»)
+
+  abbrev super-entry : ℕ × ℕ
+  super-entry = (l1Slot (l .«sup_ipa_base»), l .«l2_sup_pa»)
+
+  abbrev device-entry : ℕ × ℕ
+  device-entry = (l1Slot (l .«device_base»), l .«l2_dev_pa»)
 
   runs-1 :
-      (p d : Bool) → image l .present ≡ p → there l ≡ d → tableOf i ≡ 1 → stored (only 1 (runsOf l base sup)) i 0 ≡ l1At l (indexOf i)
+      (p d : Bool) →
+      image l .present ≡ p → there l ≡ d → tableOf i ≡ 1 → stored (only 1 (runsOf l base sup)) i 0 ≡ l1At l (indexOf i)
   unfolding imageRuns dataRuns superRuns deviceRuns stored
-  runs-1 true true e f t = rw (e, f) (named-last ((slot (image l), l .«l2_code_pa») ∷ (l1Slot (l .«data_ipa_base»), l .«l2_data_pa») ∷ (l1Slot (l .«sup_ipa_base»), l .«l2_sup_pa») ∷ (l1Slot (l .«device_base»), l .«l2_dev_pa») ∷ []) i 0 t)
-  runs-1 true false e f t = rw (e, f) (named-last ((slot (image l), l .«l2_code_pa») ∷ (l1Slot (l .«data_ipa_base»), l .«l2_data_pa») ∷ (l1Slot (l .«sup_ipa_base»), l .«l2_sup_pa») ∷ []) i 0 t)
-  runs-1 false true e f t = rw (e, f) (named-last ((l1Slot (l .«data_ipa_base»), l .«l2_data_pa») ∷ (l1Slot (l .«sup_ipa_base»), l .«l2_sup_pa») ∷ (l1Slot (l .«device_base»), l .«l2_dev_pa») ∷ []) i 0 t)
-  runs-1 false false e f t = rw (e, f) (named-last ((l1Slot (l .«data_ipa_base»), l .«l2_data_pa») ∷ (l1Slot (l .«sup_ipa_base»), l .«l2_sup_pa») ∷ []) i 0 t)
+  runs-1 true true e f t = rw (e, f) (named-last (image-entry ∷ data-entry ∷ super-entry ∷ device-entry ∷ []) i 0 t)
+  runs-1 true false e f t = rw (e, f) (named-last (image-entry ∷ data-entry ∷ super-entry ∷ []) i 0 t)
+  runs-1 false true e f t = rw (e, f) (named-last (data-entry ∷ super-entry ∷ device-entry ∷ []) i 0 t)
+  runs-1 false false e f t = rw (e, f) (named-last (data-entry ∷ super-entry ∷ []) i 0 t)
 
   pub at-1 : tableOf i ≡ 1 → target l base sup i ≡ l1At l (indexOf i)
   at-1 t = of-table 1 t ∙ runs-1 (image l .present) (there l) refl refl t
 
+  image-block :
+      tableOf i ≡ 2 →
+      overwrite 0 (wordAt (one 2 (l2Slot (image l .ipa)) (imageTo (image l .pa))) i)
+      ≡ pick (eqb (l2Slot (image l .ipa)) (indexOf i)) (imageTo (image l .pa)) 0
+  image-block t = single 2 (l2Slot (image l .ipa)) (imageTo (image l .pa)) i 0 t (image-some (image l .pa))
+
   runs-2 :
-      (p d : Bool) → image l .present ≡ p → there l ≡ d → tableOf i ≡ 2 → stored (only 2 (runsOf l base sup)) i 0 ≡ imageAt l (indexOf i)
+      (p d : Bool) →
+      image l .present ≡ p → there l ≡ d → tableOf i ≡ 2 → stored (only 2 (runsOf l base sup)) i 0 ≡ imageAt l (indexOf i)
   unfolding imageRuns dataRuns superRuns deviceRuns stored
-  runs-2 true true e f t = rw (e, f) (single 2 (l2Slot (image l .ipa)) (imageTo (image l .pa)) i 0 t (image-some (image l .pa)))
-  runs-2 true false e f t = rw (e, f) (single 2 (l2Slot (image l .ipa)) (imageTo (image l .pa)) i 0 t (image-some (image l .pa)))
+  runs-2 true true e f t = rw (e, f) (image-block t)
+  runs-2 true false e f t = rw (e, f) (image-block t)
   runs-2 false true e f t = rw (e, f)
   runs-2 false false e f t = rw (e, f)
 
   pub at-2 : tableOf i ≡ 2 → target l base sup i ≡ imageAt l (indexOf i)
   at-2 t = of-table 2 t ∙ runs-2 (image l .present) (there l) refl refl t
 
+  page-table :
+      tableOf i ≡ 3 →
+      overwrite 0 (wordAt (one 3 (l2Slot (l .«data_ipa_base»)) (tableTo (l .«l3_data_pa»))) i) ≡ dataAt l (indexOf i)
+  page-table t = single 3 (l2Slot (l .«data_ipa_base»)) (tableTo (l .«l3_data_pa»)) i 0 t (names-some (l .«l3_data_pa»))
+
   runs-3 :
-      (p d : Bool) → image l .present ≡ p → there l ≡ d → tableOf i ≡ 3 → stored (only 3 (runsOf l base sup)) i 0 ≡ dataAt l (indexOf i)
+      (p d : Bool) →
+      image l .present ≡ p → there l ≡ d → tableOf i ≡ 3 → stored (only 3 (runsOf l base sup)) i 0 ≡ dataAt l (indexOf i)
   unfolding imageRuns dataRuns superRuns deviceRuns stored
-  runs-3 true true e f t = rw (e, f) (single 3 (l2Slot (l .«data_ipa_base»)) (tableTo (l .«l3_data_pa»)) i 0 t (names-some (l .«l3_data_pa»)))
-  runs-3 true false e f t = rw (e, f) (single 3 (l2Slot (l .«data_ipa_base»)) (tableTo (l .«l3_data_pa»)) i 0 t (names-some (l .«l3_data_pa»)))
-  runs-3 false true e f t = rw (e, f) (single 3 (l2Slot (l .«data_ipa_base»)) (tableTo (l .«l3_data_pa»)) i 0 t (names-some (l .«l3_data_pa»)))
-  runs-3 false false e f t = rw (e, f) (single 3 (l2Slot (l .«data_ipa_base»)) (tableTo (l .«l3_data_pa»)) i 0 t (names-some (l .«l3_data_pa»)))
+  runs-3 true true e f t = rw (e, f) (page-table t)
+  runs-3 true false e f t = rw (e, f) (page-table t)
+  runs-3 false true e f t = rw (e, f) (page-table t)
+  runs-3 false false e f t = rw (e, f) (page-table t)
 
   pub at-3 : tableOf i ≡ 3 → target l base sup i ≡ dataAt l (indexOf i)
   at-3 t = of-table 3 t ∙ runs-3 (image l .present) (there l) refl refl t
@@ -188,15 +216,15 @@ module _ (l : Layout) (base sup : List ℕ) (i : ℕ) where
 
   -- past table 6
   module _ (h : 6 < tableOf i) where
-    no : (k : ℕ) → k ≤ 6 → eqb (tableOf i) k ≡ false
-    no k le = ne-eqb (tableOf i) k (λ e. omega (arith, h, le, e))
+    no : (k : ℕ) → leb k 6 ≡ true → eqb (tableOf i) k ≡ false
+    no k le = ne-eqb (tableOf i) k (λ e. omega (arith, h, leb-true k 6 le, e))
 
     runs-none : (p d : Bool) → image l .present ≡ p → there l ≡ d → stored (only (tableOf i) (runsOf l base sup)) i 0 ≡ 0
     unfolding imageRuns dataRuns superRuns deviceRuns stored
-    runs-none true true e f = rw (e, f, no 1 (omega arith), no 2 (omega arith), no 3 (omega arith), no 4 (omega arith), no 5 (omega arith), no 6 (omega arith))
-    runs-none true false e f = rw (e, f, no 1 (omega arith), no 2 (omega arith), no 3 (omega arith), no 4 (omega arith), no 5 (omega arith))
-    runs-none false true e f = rw (e, f, no 1 (omega arith), no 3 (omega arith), no 4 (omega arith), no 5 (omega arith), no 6 (omega arith))
-    runs-none false false e f = rw (e, f, no 1 (omega arith), no 3 (omega arith), no 4 (omega arith), no 5 (omega arith))
+    runs-none true true e f = rw (e, f, no 1 refl, no 2 refl, no 3 refl, no 4 refl, no 5 refl, no 6 refl)
+    runs-none true false e f = rw (e, f, no 1 refl, no 2 refl, no 3 refl, no 4 refl, no 5 refl)
+    runs-none false true e f = rw (e, f, no 1 refl, no 3 refl, no 4 refl, no 5 refl, no 6 refl)
+    runs-none false false e f = rw (e, f, no 1 refl, no 3 refl, no 4 refl, no 5 refl)
 
     pub at-none : target l base sup i ≡ 0
     at-none = of-table (tableOf i) refl ∙ runs-none (image l .present) (there l) refl refl

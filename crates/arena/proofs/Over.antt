@@ -39,7 +39,9 @@ pub over-nothing : (r : Run) (xs : List ℕ) → ((i : ℕ) → wordAt r i ≡ 0
 unfolding stored
 over-nothing r xs e = over-same (stored (r ∷ [])) xs (λ i old. ap (overwrite old) (e i))
 
-pub over-run : (r s : Run) (xs ys : List ℕ) → ((i : ℕ) → wordAt r i ≡ wordAt s i) → Over (stored (r ∷ [])) xs ys → Over (stored (s ∷ [])) xs ys
+pub over-run :
+    (r s : Run) (xs ys : List ℕ) →
+    ((i : ℕ) → wordAt r i ≡ wordAt s i) → Over (stored (r ∷ [])) xs ys → Over (stored (s ∷ [])) xs ys
 unfolding stored
 over-run r s xs ys e = over-as (stored (r ∷ [])) (stored (s ∷ [])) xs ys (λ i old h. ap (overwrite old) (e i))
 
@@ -63,45 +65,50 @@ over-more t f n w word xs ys zs e a b =
 pub over-zero : (t j w : ℕ) (xs : List ℕ) → w ≡ 0 → Over (stored (one t j w ∷ [])) xs xs
 over-zero t j w xs z = over-nothing (one t j w) xs (λ i. no-word t j w i z)
 
-module _ (t j w : ℕ) (xs : List ℕ) (named : 0 < t) (within : j < entries) (inside-arena : (t - 1) * entries + j < length xs) (some : w ≡ 0 → ⊥) where
-  abbrev at : ℕ
-  at = (t - 1) * entries + j
+module _
+    (t j w : ℕ) (xs : List ℕ) (named : 0 < t) (within : j < entries) (inside-arena : (t - 1) * entries + j < length xs)
+    (some : w ≡ 0 → ⊥)
+  where
+    abbrev at : ℕ
+    at = (t - 1) * entries + j
 
-  here : (i : ℕ) → i ≡ at → stored (one t j w ∷ []) i (getD xs i 0) ≡ w
-  unfolding stored
-  here i e =
-      let lo : j ≤ indexOf i = omega (arith, e, within) in
-      let hi : indexOf i < j + 1 = omega (arith, e, within) in
-      ap (overwrite (getD xs i 0)) (inside t j 1 (λ p. w) i (omega (arith, e, within, named)) lo hi)
-      ∙ ap (λ b. pick b (getD xs i 0) w) (ne-eqb w 0 some)
+    here : (i : ℕ) → i ≡ at → stored (one t j w ∷ []) i (getD xs i 0) ≡ w
+    unfolding stored
+    here i e =
+        let lo : j ≤ indexOf i = omega (arith, e, within) in
+        let hi : indexOf i < j + 1 = omega (arith, e, within) in
+        ap (overwrite (getD xs i 0)) (inside t j 1 (λ p. w) i (omega (arith, e, within, named)) lo hi)
+        ∙ ap (λ b. pick b (getD xs i 0) w) (ne-eqb w 0 some)
 
-  elsewhere : (i : ℕ) → (i ≡ at → ⊥) → wordAt (one t j w) i ≡ 0
-  elsewhere i ne = by-table (eqb (tableOf i) t) refl
-    where
-      by-place : tableOf i ≡ t → (a b : Bool) → ltb (indexOf i) j ≡ a → ltb j (indexOf i) ≡ b → wordAt (one t j w) i ≡ 0
-      by-place e true b p q = before t j 1 (λ p. w) i (ltb-true _ _ p)
-      by-place e false true p q =
-          let h = ltb-true j (indexOf i) q in past t j 1 (λ p. w) i (omega (arith, h))
-      by-place e false false p q =
-          let h = ltb-false (indexOf i) j p in let k = ltb-false j (indexOf i) q in absurd (ne (omega (arith, h, k, e, named)))
+    elsewhere : (i : ℕ) → (i ≡ at → ⊥) → wordAt (one t j w) i ≡ 0
+    elsewhere i ne = by-table (eqb (tableOf i) t) refl
+      where
+        by-place : tableOf i ≡ t → (a b : Bool) → ltb (indexOf i) j ≡ a → ltb j (indexOf i) ≡ b → wordAt (one t j w) i ≡ 0
+        by-place e true b p q = before t j 1 (λ p. w) i (ltb-true _ _ p)
+        by-place e false true p q =
+            let h = ltb-true j (indexOf i) q in past t j 1 (λ p. w) i (omega (arith, h))
+        by-place e false false p q =
+            let h = ltb-false (indexOf i) j p in let k = ltb-false j (indexOf i) q in absurd (ne (omega (arith, h, k, e, named)))
 
-      by-table : (b : Bool) → eqb (tableOf i) t ≡ b → wordAt (one t j w) i ≡ 0
-      by-table true e = by-place (eqb-true (tableOf i) t e) (ltb (indexOf i) j) (ltb j (indexOf i)) refl refl
-      by-table false e = other t j 1 (λ p. w) i e
+        by-table : (b : Bool) → eqb (tableOf i) t ≡ b → wordAt (one t j w) i ≡ 0
+        by-table true e = by-place (eqb-true (tableOf i) t e) (ltb (indexOf i) j) (ltb j (indexOf i)) refl refl
+        by-table false e = other t j 1 (λ p. w) i e
 
-  kept : (i : ℕ) → wordAt (one t j w) i ≡ 0 → stored (one t j w ∷ []) i (getD xs i 0) ≡ getD xs i 0
-  unfolding stored
-  kept i e = ap (overwrite (getD xs i 0)) e
+    kept : (i : ℕ) → wordAt (one t j w) i ≡ 0 → stored (one t j w ∷ []) i (getD xs i 0) ≡ getD xs i 0
+    unfolding stored
+    kept i e = ap (overwrite (getD xs i 0)) e
 
-  pub over-one : Over (stored (one t j w ∷ [])) xs (set xs at w)
-  over-one = record { long = length-set xs at w; word = word-at }
-    where
-      word-at : (i : ℕ) → i < length xs → getD (set xs at w) i 0 ≡ stored (one t j w ∷ []) i (getD xs i 0)
-      word-at i h = go (eqb i at) refl
-        where
-          go : (b : Bool) → eqb i at ≡ b → getD (set xs at w) i 0 ≡ stored (one t j w ∷ []) i (getD xs i 0)
-          go true e = let q = eqb-true i at e in ap (λ (k : ℕ). getD (set xs at w) k 0) q ∙ getD-set-same xs at w 0 inside-arena ∙ sym (here i q)
-          go false e = let q = eqb-false i at e in getD-set-other xs at i w 0 q ∙ sym (kept i (elsewhere i q))
+    pub over-one : Over (stored (one t j w ∷ [])) xs (set xs at w)
+    over-one = record { long = length-set xs at w; word = word-at }
+      where
+        word-at : (i : ℕ) → i < length xs → getD (set xs at w) i 0 ≡ stored (one t j w ∷ []) i (getD xs i 0)
+        word-at i h = go (eqb i at) refl
+          where
+            go : (b : Bool) → eqb i at ≡ b → getD (set xs at w) i 0 ≡ stored (one t j w ∷ []) i (getD xs i 0)
+            go true e =
+                let q = eqb-true i at e in
+                ap (λ (k : ℕ). getD (set xs at w) k 0) q ∙ getD-set-same xs at w 0 inside-arena ∙ sym (here i q)
+            go false e = let q = eqb-false i at e in getD-set-other xs at i w 0 q ∙ sym (kept i (elsewhere i q))
 
 -- equal stores
 

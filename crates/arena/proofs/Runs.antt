@@ -73,7 +73,9 @@ module _ (t f n : ℕ) (word : ℕ → ℕ) (i old : ℕ) where
   pub grows : Grows
   grows = by-table (eqb (tableOf i) t) refl
     where
-      by-place : tableOf i ≡ t → (a b c : Bool) → leb f (indexOf i) ≡ a → ltb (indexOf i) (f + n) ≡ b → ltb (f + n) (indexOf i) ≡ c → Grows
+      by-place :
+          tableOf i ≡ t → (a b c : Bool) →
+          leb f (indexOf i) ≡ a → ltb (indexOf i) (f + n) ≡ b → ltb (f + n) (indexOf i) ≡ c → Grows
       by-place e false b c p q r =
           let h = leb-false f (indexOf i) p in
           none (before t f n word i h) (before t (f + n) 1 (λ p. word n) i (omega (arith, h))) (before t f (n + 1) word i h)
@@ -112,7 +114,8 @@ empty t f word i = go (leb f (indexOf i)) refl
     go false e = before t f 0 word i (leb-false f (indexOf i) e)
 
 module _
-    (t f n m : ℕ) (word : ℕ → ℕ) (grown : (p : ℕ) → n ≤ p → p < m → word p ≡ 0) (shrunk : (p : ℕ) → m ≤ p → p < n → word p ≡ 0)
+    (t f n m : ℕ) (word : ℕ → ℕ) (grown : (p : ℕ) → n ≤ p → p < m → word p ≡ 0)
+    (shrunk : (p : ℕ) → m ≤ p → p < n → word p ≡ 0)
     (i : ℕ)
   where
     pub resized : wordAt (run t f n word) i ≡ wordAt (run t f m word) i

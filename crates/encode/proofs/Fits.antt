@@ -9,7 +9,9 @@ use Rattle.layout.specs.Size.{entries, block, l1Span}
 use Rattle.layout.specs.declared.Layout.{Layout}
 use Rattle.encode.specs.Fits.{SupersFit, DevicesFit}
 
-super-slot : (ipa frames p : ℕ) → ipa % block ≡ 0 → ipa % l1Span + frames * block ≤ l1Span → p < frames → ipa / block % entries + p < entries
+super-slot :
+    (ipa frames p : ℕ) →
+    ipa % block ≡ 0 → ipa % l1Span + frames * block ≤ l1Span → p < frames → ipa / block % entries + p < entries
 super-slot ipa frames p aligned inside h = omega (arith, aligned, inside, h)
 
 device-slots : (ipa len : ℕ) → ipa % block ≡ 0 → ipa % l1Span + len ≤ l1Span → ipa / block % entries + len / block ≤ entries

@@ -4,21 +4,14 @@ use mathlib.Core.Bool.{Bool, true, false}
 use mathlib.Core.List.{List, [], _∷_}
 use mathlib.Core.Path.{_≡_, refl, sym, ap, _∙_}
 use native.Mathlib.Omega.{arith}
-use lib.Dec.{eqb, ltb}
+use lib.Dec.{eqb}
 use lib.ListN.{length, getD, replicate, getD-replicate, length-replicate}
 use lib.Seq.{ext-getD}
-use borrow.Author.Tests.{eqb-true}
-use Rattle.arena.specs.Encoded.{Run, tableOf, overwrite, wordAt, stored, runsOf, cleared, encoded}
+use Rattle.arena.proofs.At.{overwrite-zero, cleared-zero}
+use Rattle.arena.specs.Encoded.{Run, overwrite, wordAt, stored, runsOf, cleared, encoded}
 use Rattle.fields.specs.Named.{pick}
 use Rattle.layout.specs.Size.{arenaLength}
 use Rattle.tables.specs.Arena.{OldWords, FromZeros, RefusedKeeps}
-
-over-zero : (w : ℕ) → overwrite 0 w ≡ w
-over-zero w = go (eqb w 0) refl
-  where
-    go : (b : Bool) → eqb w 0 ≡ b → pick b 0 w ≡ w
-    go true e = sym (eqb-true w 0 e)
-    go false e = refl
 
 over-over : (old w x : ℕ) → overwrite (overwrite old w) x ≡ overwrite old (overwrite w x)
 over-over old w x = go (eqb x 0) refl
@@ -33,20 +26,15 @@ stored-over [] i old = refl
 stored-over (r ∷ rs) i old =
     stored-over rs i (overwrite old (wordAt r i))
     ∙ over-over old (wordAt r i) (stored rs i 0)
-    ∙ ap (overwrite old) (ap (λ w. overwrite w (stored rs i 0)) (sym (over-zero (wordAt r i))) ∙ sym (stored-over rs i (overwrite 0 (wordAt r i))))
-
-zeros : (i : ℕ) → cleared i 0 ≡ 0
-zeros i = go (ltb 3 (tableOf i))
-  where
-    go : (b : Bool) → _≡_ {A = ℕ} (pick b 0 0) 0
-    go true = refl
-    go false = refl
+    ∙ ap (overwrite old)
+    (ap (λ w. overwrite w (stored rs i 0)) (sym (overwrite-zero (wordAt r i)))
+    ∙ sym (stored-over rs i (overwrite 0 (wordAt r i))))
 
 pub old-words : OldWords
 unfolding encoded
 old-words l base sup i old =
     stored-over (runsOf l base sup) i (cleared i old)
-    ∙ ap (λ z. overwrite (cleared i old) (stored (runsOf l base sup) i z)) (sym (zeros i))
+    ∙ ap (λ z. overwrite (cleared i old) (stored (runsOf l base sup) i z)) (sym (cleared-zero i))
 
 zeroed : (i : ℕ) → i < length {A = ℕ} (replicate arenaLength 0) → _≡_ {A = ℕ} (getD (replicate arenaLength 0) i 0) 0
 zeroed i h =

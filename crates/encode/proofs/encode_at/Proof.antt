@@ -36,7 +36,8 @@ encode-guarded-requires c κs =
     let t = c .before in
     let v = t .before .before .guard-at in
     let a = t .before .before .before .before .before .before .before .args in
-    let facts = arena-guarded-facts (a .limit) (now (a .arena)) (now (a .base)) (now (a .sup)) (a .l) (sym (v .ensures) ∙ ap outcomeOf (t .enum-told .given .1)) in
+    let let-by = sym (v .ensures) ∙ ap outcomeOf (t .enum-told .given .1) in
+    let facts = arena-guarded-facts (a .limit) (now (a .arena)) (now (a .base)) (now (a .sup)) (a .l) let-by in
     let guarded = facts .1 in
     (facts .0, (base-fits _ _ _ _ guarded, (supers-fit _ _ _ _ guarded, devices-fit _ _ _ _ guarded)))
 

@@ -58,7 +58,8 @@ returns c =
     let l = s .args .l in
     let device = w .device-window .result in
     let first = over-placed 1 _ (slot device) _ _ _ _ (at .l1-index .ensures) (v .before .table-word .ensures) (v .put .ensures) in
-    let blocks = over-from 6 _ (l2Slot (l .«device_base»)) (l .«device_len» / block) (deviceAt (l .«device_base»)) _ _ (i .l2-index .ensures) (z .put-devices .ensures) in
+    let word = deviceAt (l .«device_base») in
+    let blocks = over-from 6 _ (l2Slot (l .«device_base»)) (l .«device_len» / block) word _ _ (i .l2-index .ensures) (z .put-devices .ensures) in
     over-runs _ (deviceRuns l) _ _
     (sym (present device (l .«l2_dev_pa») _ (at .before .if1 .taken)) ∙ ap (runsIn l) (w .device-window .ensures))
     (over-append (_ ∷ []) (_ ∷ []) _ _ _ first blocks)

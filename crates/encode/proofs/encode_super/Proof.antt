@@ -78,7 +78,9 @@ returns c =
     let w = superAt (l .«sup_pa_base») (l .«sup_wx_exempt») sup in
     let first = over-placed 1 _ _ _ _ _ _ (at .l1-index .ensures) (v .before .table-word .ensures) (v .put .ensures) in
     let placed = over-from 5 _ (l2Slot (l .«sup_ipa_base»)) _ w _ _ (i .l2-index .ensures) (z .put-supers .ensures) in
-    let counted = resized 5 (l2Slot (l .«sup_ipa_base»)) (length sup) (l .«sup_frames») w (λ p lo hi. past-map l sup p lo) (λ p lo hi. unbacked l sup (s .pre .1) p lo hi) in
+    let counted =
+    resized 5 (l2Slot (l .«sup_ipa_base»)) (length sup) (l .«sup_frames») w (λ p lo hi. past-map l sup p lo)
+    (unbacked l sup (s .pre .1)) in
     over-append (_ ∷ []) (_ ∷ []) _ _ _ first (over-run _ _ _ _ counted placed)
 
 pub encode-super-spec : {M : Type 1} → statement M

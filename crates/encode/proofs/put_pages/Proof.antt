@@ -1,14 +1,14 @@
 -- `put_pages` meets its contract: m words of the run are stored.
 use Prim.Native.Nat.{ℕ, _+_, _-_, _*_, _≤_}
 use mathlib.Core.List.{List, [], _∷_}
-use mathlib.Core.Path.{_≡_, ap, _∙_}
+use mathlib.Core.Path.{refl, _≡_, ap, _∙_}
 use native.Mathlib.Omega.{arith}
 use lib.ListN.{length, List·getD-eq-default}
 use borrow.Author.Needs.{needs}
 use denote.Ref.{now}
-use Rattle.arena.proofs.Over.{over-none, over-more, over-run}
+use Rattle.arena.proofs.Over.{over-none, over-more, over-run, over-placed}
 use Rattle.arena.proofs.Runs.{resized}
-use Rattle.arena.specs.Encoded.{run, one, wordAt, stored, pageAt}
+use Rattle.arena.specs.Encoded.{run, stored, pageAt}
 use Rattle.arena.specs.Over.{Over}
 use Rattle.arena.specs.Word.{leafFor, pageTo}
 use Rattle.layout.specs.Size.{entries, page}
@@ -58,7 +58,8 @@ loop-again : tie.Need-loop-again Inv-loop μ-loop
 loop-again c =
     let v = c .before .before in
     let h = v .before .before .before .before .before in
-    over-more _ _ (h .loop .m) _ _ _ _ _ (v .before .page-word .ensures) (h .loop .inv) (over-run _ (one 4 (0 + h .loop .m) (v .before .page-word .result)) _ _ (λ i. ap (λ (n : ℕ). wordAt (one 4 n (v .before .page-word .result)) i) (first (h .loop .m))) (v .put .ensures))
+    let placed = over-placed 4 _ (0 + h .loop .m) _ _ _ _ (first (h .loop .m)) (v .before .page-word .ensures) (v .put .ensures) in
+    over-more _ _ (h .loop .m) _ _ _ _ _ refl (h .loop .inv) placed
 
 same-length : tie.Need-same-length Inv-loop μ-loop
 same-length c = c .before .loop .inv .long
