@@ -16,7 +16,7 @@ run:
 
 test:
 	@rt fmt --check
-	@$(MAKE) --no-print-directory header scenes compare
+	@$(MAKE) --no-print-directory header compare scenes
 	@exec rt ci
 
 fmt:

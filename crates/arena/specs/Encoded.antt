@@ -21,6 +21,7 @@ pub record Run : Type 0 where
 abbrev pub run : ℕ → ℕ → ℕ → (ℕ → ℕ) → Run
 run t j n word = record { table = t; from = j; count = n; word = word }
 
+-- a single word
 abbrev pub one : ℕ → ℕ → ℕ → Run
 one t j w = run t j 1 (λ p. w)
 

@@ -105,7 +105,7 @@ fn set(line: &[u8], numbers: &mut [u64], base: &mut [u8], sup: &mut [u8]) -> boo
     true
 }
 
-// The board's tables may lie anywhere below 2^48.
+// Tables and outputs lie below 2^48: a limit of the dump's own.
 fn dump(l: Layout, base: &[u8], sup: &[u8]) {
     let mut arena = [0; Layout::ARENA_LEN];
     let verdict = encode::encode_at(Layout::OUTPUT_LIMIT, &mut arena, base, sup, l);
