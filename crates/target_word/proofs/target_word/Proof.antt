@@ -1,0 +1,102 @@
+-- `target_word` meets its contract: by the table.
+use Prim.Native.Nat.{ℕ, _+_, _*_, _%_}
+use mathlib.Core.Path.{sym, ap, _∙_}
+use native.Mathlib.Omega.{arith}
+use borrow.Author.Needs.{needs}
+use denote.Ref.{now}
+use Rattle.arena.proofs.At.{at-none}
+use Rattle.arena.specs.Encoded.{target}
+use Rattle.arena.specs.Word.{leafFor, pageTo}
+use Rattle.layout.specs.Size.{entries, page}
+use Rattle.target_word.proofs.Place.{in-4}
+use Rattle.target_word.proofs.target_word.Statement.{statement}
+use Rattle.target_word.proofs.target_word.Tie as tie
+
+l1-word-requires : tie.Need-l1-word-requires
+l1-word-requires c κs = search needs
+
+image-word-requires : tie.Need-image-word-requires
+image-word-requires c κs = search needs
+
+data-word-requires : tie.Need-data-word-requires
+data-word-requires c κs = search needs
+
+cast-page-word : tie.Need-cast-page-word
+cast-page-word c = search needs
+
+entry-at-requires : tie.Need-entry-at-requires
+entry-at-requires c κs = search needs
+
+page-word-requires : tie.Need-page-word-requires
+page-word-requires c κs = search needs
+
+super-word-requires : tie.Need-super-word-requires
+super-word-requires c κs = search needs
+
+device-word-requires : tie.Need-device-word-requires
+device-word-requires c κs = search needs
+
+returns : tie.Need-returns
+returns c =
+    let a = c .before .before .before .before .args in
+    let key = c .before .match .keys1 in
+    c .l1-word .ensures _ _ ∙ ap (target (a .l) (now (a .base)) (now (a .sup))) (omega (arith, key))
+
+returns-2 : tie.Need-returns-2
+returns-2 c =
+    let a = c .before .before .before .before .args in
+    let key = c .before .match .keys2 in
+    c .image-word .ensures _ _ ∙ ap (target (a .l) (now (a .base)) (now (a .sup))) (omega (arith, key))
+
+returns-3 : tie.Need-returns-3
+returns-3 c =
+    let a = c .before .before .before .before .args in
+    let key = c .before .match .keys3 in
+    c .data-word .ensures _ _ ∙ ap (target (a .l) (now (a .base)) (now (a .sup))) (omega (arith, key))
+
+returns-4 : tie.Need-returns-4
+returns-4 c =
+    let key = c .before .before .match .keys4 in
+    let a = c .before .before .before .before .before .args in
+    c .page-word .ensures
+    ∙ ap (λ (n : ℕ). leafFor n (pageTo (a .l .«data_pa_base» + a .i % entries * page))) (c .before .entry-at .ensures)
+    ∙ sym (in-4 (a .l) (now (a .base)) (now (a .sup)) (a .i % entries) (omega arith))
+    ∙ ap (target (a .l) (now (a .base)) (now (a .sup))) (omega (arith, key))
+
+returns-5 : tie.Need-returns-5
+returns-5 c =
+    let a = c .before .before .before .before .args in
+    let key = c .before .match .keys5 in
+    c .super-word .ensures _ ∙ ap (target (a .l) (now (a .base)) (now (a .sup))) (omega (arith, key))
+
+returns-6 : tie.Need-returns-6
+returns-6 c =
+    let a = c .before .before .before .before .args in
+    let key = c .before .match .keys6 in
+    c .device-word .ensures _ _ ∙ ap (target (a .l) (now (a .base)) (now (a .sup))) (omega (arith, key))
+
+returns-7 : tie.Need-returns-7
+returns-7 c =
+    let a = c .before .before .before .args in
+    let rest = c .match .rest in
+    sym (at-none (a .l) (now (a .base)) (now (a .sup)) (a .i) (omega (arith, rest)))
+
+pub target-word-spec : {M : Type 1} → statement M
+target-word-spec =
+    tie.close
+    (tie.spec
+    l1-word-requires
+    image-word-requires
+    data-word-requires
+    cast-page-word
+    entry-at-requires
+    page-word-requires
+    super-word-requires
+    device-word-requires
+    returns
+    returns-2
+    returns-3
+    returns-4
+    returns-5
+    returns-6
+    returns-7)
