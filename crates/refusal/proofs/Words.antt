@@ -6,7 +6,7 @@ use native.Mathlib.Omega.{arith}
 use lib.ListN.{length, getD, drop, drop-of-length-le}
 use lib.Seq.{drop-cons}
 use Rattle.refusal.specs.Outcome.{outcomeOf, outcomeWords}
-use Rattle.refusal.specs.declared.Refusal.the-variants.{ArenaLength, MapLength, MapCode, DeviceWindowUnaligned, GranuleNotEmitted, WindowUnaligned, TableUnnameable, SuperFramesUncountable, RegionCrossesL1, OutputPastLimit, RegionsCollide, WindowsOverlap, TablesEqual, SuperUnbacked, UnsupportedSpan, OutOfRange, SpanConflict, UnauthorizedMapping, WriteEscalation, Inexact}
+use Rattle.refusal.specs.declared.Refusal.the-variants.{ArenaLength, MapLength, MapCode, DeviceWindowUnaligned, GranuleNotEmitted, WindowUnaligned, TableUnnameable, SuperFramesUncountable, RegionCrossesL1, OutputPastLimit, RegionsCollide, WindowsOverlap, TablesEqual, SuperUnbacked, UnsupportedSpan, OutOfRange, SpanConflict, BadTableEntry, BadImageBlock, BadLeaf, SpuriousDescriptor, BadDeviceBlock, UnauthorizedMapping, WriteEscalation, Inexact}
 use Rattle.refusal.specs.declared.Verdict.the-variants.{Accepted, Refused}
 use Rattle.refusal.specs.declared.Verdict.{Verdict}
 
@@ -29,6 +29,11 @@ number-below (Refused (SuperUnbacked position)) = omega arith
 number-below (Refused (UnsupportedSpan parent)) = omega arith
 number-below (Refused (OutOfRange mfn capacity)) = omega arith
 number-below (Refused (SpanConflict mfn)) = omega arith
+number-below (Refused (BadTableEntry table index found pa expected)) = omega arith
+number-below (Refused (BadImageBlock found pa access never expected)) = omega arith
+number-below (Refused (BadLeaf mfn found pa access never expects expectedPa expectedAccess)) = omega arith
+number-below (Refused (SpuriousDescriptor table index desc)) = omega arith
+number-below (Refused (BadDeviceBlock index desc)) = omega arith
 number-below (Refused (UnauthorizedMapping dom mfn owned owner perm)) = omega arith
 number-below (Refused (WriteEscalation dom mfn owner)) = omega arith
 number-below (Refused (Inexact dom mfn mapped expected)) = omega arith

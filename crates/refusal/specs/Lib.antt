@@ -1,3 +1,4 @@
 pub mod All
 pub mod Outcome
 pub mod Table
+pub mod Told

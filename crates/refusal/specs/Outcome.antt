@@ -4,7 +4,7 @@ use mathlib.Core.List.{List, [], _∷_}
 use Rattle.fields.specs.Numbers.{eight}
 use Rattle.refusal.specs.Table.{Row, row, Outcome, accepted, refused}
 use Rattle.refusal.specs.declared.Refusal.{Refusal}
-use Rattle.refusal.specs.declared.Refusal.the-variants.{ArenaLength, MapLength, MapCode, DeviceWindowUnaligned, GranuleNotEmitted, WindowUnaligned, TableUnnameable, SuperFramesUncountable, RegionCrossesL1, OutputPastLimit, RegionsCollide, WindowsOverlap, TablesEqual, SuperUnbacked, UnsupportedSpan, OutOfRange, SpanConflict, UnauthorizedMapping, WriteEscalation, Inexact}
+use Rattle.refusal.specs.declared.Refusal.the-variants.{ArenaLength, MapLength, MapCode, DeviceWindowUnaligned, GranuleNotEmitted, WindowUnaligned, TableUnnameable, SuperFramesUncountable, RegionCrossesL1, OutputPastLimit, RegionsCollide, WindowsOverlap, TablesEqual, SuperUnbacked, UnsupportedSpan, OutOfRange, SpanConflict, BadTableEntry, BadImageBlock, BadLeaf, SpuriousDescriptor, BadDeviceBlock, UnauthorizedMapping, WriteEscalation, Inexact}
 use Rattle.refusal.specs.declared.Verdict.{Verdict}
 use Rattle.refusal.specs.declared.Verdict.the-variants.{Accepted, Refused}
 
@@ -26,6 +26,12 @@ rowOf (SuperUnbacked position) = row 14 (position ∷ [])
 rowOf (UnsupportedSpan parent) = row 15 (parent ∷ [])
 rowOf (OutOfRange mfn capacity) = row 16 (mfn ∷ capacity ∷ [])
 rowOf (SpanConflict mfn) = row 17 (mfn ∷ [])
+rowOf (BadTableEntry table index found pa expected) = row 18 (table ∷ index ∷ found ∷ pa ∷ expected ∷ [])
+rowOf (BadImageBlock found pa access never expected) = row 19 (found ∷ pa ∷ access ∷ never ∷ expected ∷ [])
+rowOf (BadLeaf mfn found pa access never expects expectedPa expectedAccess) =
+    row 20 (mfn ∷ found ∷ pa ∷ access ∷ never ∷ expects ∷ expectedPa ∷ expectedAccess ∷ [])
+rowOf (SpuriousDescriptor table index desc) = row 21 (table ∷ index ∷ desc ∷ [])
+rowOf (BadDeviceBlock index desc) = row 22 (index ∷ desc ∷ [])
 rowOf (UnauthorizedMapping dom mfn owned owner perm) = row 23 (dom ∷ mfn ∷ owned ∷ owner ∷ perm ∷ [])
 rowOf (WriteEscalation dom mfn owner) = row 24 (dom ∷ mfn ∷ owner ∷ [])
 rowOf (Inexact dom mfn mapped expected) = row 25 (dom ∷ mfn ∷ mapped ∷ expected ∷ [])

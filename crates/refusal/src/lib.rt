@@ -2,9 +2,9 @@
 ghost use mathlib.Core.Path.{_≡_};
 ghost use Rattle.refusal.specs.Outcome.{outcomeOf, outcomeWords, rowWords, rowOf};
 
-// Rows 1 to 17 and 23 to 25, by the Rust's names where it has them, with the values that a refusal carries. Names are document 01's
-// codes: maps, windows and tables, and in `WindowUnaligned` row 6's checks. `owned` is 1 where there is an owner, and 0, as is the owner,
-// where there is none; a permission is an entry of a map.
+// Rows 1 to 25, by the Rust's names where it has them, with the values that a refusal carries. Names are document 01's codes: maps,
+// windows and tables, and in `WindowUnaligned` row 6's checks. What may be none is told by a 1 and its values, or by zeros: an owner by
+// `owned`, what a word decodes to by `found`, what it should by `expects`. A permission is an entry of a map, an access 1 Ro or 2 Rw.
 pub enum Refusal {
     ArenaLength,
     MapLength,
@@ -59,6 +59,39 @@ pub enum Refusal {
     },
     SpanConflict {
         mfn: u64,
+    },
+    BadTableEntry {
+        table: u64,
+        index: u64,
+        found: u64,
+        pa: u64,
+        expected: u64,
+    },
+    BadImageBlock {
+        found: u64,
+        pa: u64,
+        access: u64,
+        never: u64,
+        expected: u64,
+    },
+    BadLeaf {
+        mfn: u64,
+        found: u64,
+        pa: u64,
+        access: u64,
+        never: u64,
+        expects: u64,
+        expected_pa: u64,
+        expected_access: u64,
+    },
+    SpuriousDescriptor {
+        table: u64,
+        index: u64,
+        desc: u64,
+    },
+    BadDeviceBlock {
+        index: u64,
+        desc: u64,
     },
     UnauthorizedMapping {
         dom: u64,
@@ -124,6 +157,52 @@ impl Refusal {
             Refusal::UnsupportedSpan { parent } => [15, parent, 0, 0, 0, 0, 0, 0, 0],
             Refusal::OutOfRange { mfn, capacity } => [16, mfn, capacity, 0, 0, 0, 0, 0, 0],
             Refusal::SpanConflict { mfn } => [17, mfn, 0, 0, 0, 0, 0, 0, 0],
+            Refusal::BadTableEntry {
+                table,
+                index,
+                found,
+                pa,
+                expected,
+            } => [18, table, index, found, pa, expected, 0, 0, 0],
+            Refusal::BadImageBlock {
+                found,
+                pa,
+                access,
+                never,
+                expected,
+            } => [19, found, pa, access, never, expected, 0, 0, 0],
+            Refusal::BadLeaf {
+                mfn,
+                found,
+                pa,
+                access,
+                never,
+                expects,
+                expected_pa,
+                expected_access,
+            } => [
+                20,
+                mfn,
+                found,
+                pa,
+                access,
+                never,
+                expects,
+                expected_pa,
+                expected_access,
+            ],
+            Refusal::SpuriousDescriptor { table, index, desc } => [
+                21,
+                table,
+                index,
+                desc,
+                0,
+                0,
+                0,
+                0,
+                0,
+            ],
+            Refusal::BadDeviceBlock { index, desc } => [22, index, desc, 0, 0, 0, 0, 0, 0],
             Refusal::UnauthorizedMapping {
                 dom,
                 mfn,

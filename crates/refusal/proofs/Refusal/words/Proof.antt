@@ -71,6 +71,21 @@ enum-known-self-16 c = search needs
 enum-known-self-17 : tie.Need-enum-known-self-17
 enum-known-self-17 c = search needs
 
+enum-known-self-18 : tie.Need-enum-known-self-18
+enum-known-self-18 c = search needs
+
+enum-known-self-19 : tie.Need-enum-known-self-19
+enum-known-self-19 c = search needs
+
+enum-known-self-20 : tie.Need-enum-known-self-20
+enum-known-self-20 c = search needs
+
+enum-known-self-21 : tie.Need-enum-known-self-21
+enum-known-self-21 c = search needs
+
+enum-known-self-22 : tie.Need-enum-known-self-22
+enum-known-self-22 c = search needs
+
 returns : tie.Need-returns
 returns c = sym (ap wordsOf (c .enum-told .given .1))
 
@@ -131,6 +146,21 @@ returns-19 c = sym (ap wordsOf (c .before .self16 .given .1))
 returns-20 : tie.Need-returns-20
 returns-20 c = sym (ap wordsOf (c .before .self17 .given .1))
 
+returns-21 : tie.Need-returns-21
+returns-21 c = sym (ap wordsOf (c .before .self18 .given .1))
+
+returns-22 : tie.Need-returns-22
+returns-22 c = sym (ap wordsOf (c .before .self19 .given .1))
+
+returns-23 : tie.Need-returns-23
+returns-23 c = sym (ap wordsOf (c .before .self20 .given .1))
+
+returns-24 : tie.Need-returns-24
+returns-24 c = sym (ap wordsOf (c .before .self21 .given .1))
+
+returns-25 : tie.Need-returns-25
+returns-25 c = sym (ap wordsOf (c .before .self22 .given .1))
+
 pub words-spec : {M : Type 1} → statement M
 words-spec =
     tie.close
@@ -155,6 +185,11 @@ words-spec =
     enum-known-self-15
     enum-known-self-16
     enum-known-self-17
+    enum-known-self-18
+    enum-known-self-19
+    enum-known-self-20
+    enum-known-self-21
+    enum-known-self-22
     returns
     returns-2
     returns-3
@@ -174,4 +209,9 @@ words-spec =
     returns-17
     returns-18
     returns-19
-    returns-20)
+    returns-20
+    returns-21
+    returns-22
+    returns-23
+    returns-24
+    returns-25)
