@@ -3,8 +3,8 @@
 use std::fmt::{self, Display, Formatter};
 
 use crate::function::{
-    faults, functions, Fault, Function, Input, Layer, Reply, FILLINGS, GRANTED, LAYOUTS, LINKED,
-    SCENES, TEXTS, WORDS,
+    faults, functions, Fault, Function, Input, Layer, Reply, ENCODINGS, FILLINGS, GRANTED, LAYOUTS,
+    LINKED, SCENES, TEXTS, WALKS, WORDS,
 };
 use crate::tally::Tally;
 
@@ -13,6 +13,8 @@ pub fn compare_all(scale: usize, fault: Option<&str>) -> Result<(), String> {
     let inputs = compare_layers(&WORDS, scale, fault)?
         + compare_layers(&LAYOUTS, scale, fault)?
         + compare_layers(&SCENES, scale, fault)?
+        + compare_layers(&WALKS, scale, fault)?
+        + compare_layers(&ENCODINGS, scale, fault)?
         + compare_layers(&FILLINGS, scale, fault)?
         + compare_layers(&GRANTED, scale, fault)?
         + compare_layers(&LINKED, scale, fault)?

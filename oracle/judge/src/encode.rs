@@ -123,14 +123,16 @@ impl Reply for Encoded {
 
 pub fn encode(scene: &Scene) -> Encoded {
     let outcome = guard(scene);
-    let mut arena = scene.arena.clone();
-    if outcome == ACCEPTED {
-        original(scene, &mut arena);
-    }
+    let arena = match outcome {
+        ACCEPTED => emitted(scene),
+        _ => scene.arena.clone(),
+    };
     Encoded { outcome, arena }
 }
 
-fn original(scene: &Scene, arena: &mut [u64]) {
+/// What the unchanged Rust makes of the arena. It asks for rows 1 to 12, not for 13 and 14.
+pub fn emitted(scene: &Scene) -> Vec<u64> {
+    let mut arena = scene.arena.clone();
     let ([l1, l2_code, l2_data, l3_data, l2_sup, l2_dev], []) = arena.as_chunks_mut() else {
         panic!("row 1 refuses any other arena");
     };
@@ -147,21 +149,27 @@ fn original(scene: &Scene, arena: &mut [u64]) {
             l2_dev,
         },
     );
+    arena
 }
 
 /// The row that refuses the scene.
 pub fn guard(scene: &Scene) -> Outcome {
-    row_1(scene)
-        .or_else(|| row_2(scene))
-        .or_else(|| row_3(scene))
-        .or_else(|| Some(layout::validate(&scene.fields)).filter(|answer| *answer != ACCEPTED))
+    rows_1_to_12(scene)
         .or_else(|| row_13(&scene.fields))
         .or_else(|| row_14(scene))
         .unwrap_or(ACCEPTED)
 }
 
-fn row_1(scene: &Scene) -> Option<Outcome> {
-    (scene.arena.len() != ARENA_LEN).then_some(words([1]))
+/// The rows that are tested before an arena is read, too.
+pub fn rows_1_to_12(scene: &Scene) -> Option<Outcome> {
+    row_1(&scene.arena)
+        .or_else(|| row_2(scene))
+        .or_else(|| row_3(scene))
+        .or_else(|| Some(layout::validate(&scene.fields)).filter(|answer| *answer != ACCEPTED))
+}
+
+pub fn row_1(arena: &[u64]) -> Option<Outcome> {
+    (arena.len() != ARENA_LEN).then_some(words([1]))
 }
 
 pub fn row_2(scene: &Scene) -> Option<Outcome> {

@@ -171,7 +171,7 @@ pub fn accepted_scene(random: &mut Random) -> Scene {
 }
 
 /// A map that row 2 does not refuse: empty, full, or with holes.
-fn accepted_map(random: &mut Random) -> Vec<u8> {
+pub fn accepted_map(random: &mut Random) -> Vec<u8> {
     let mut map = map(random);
     map.truncate(MAP_LEN);
     match random.below(8) {

@@ -8,6 +8,8 @@ use crate::fill::{self, Filling};
 use crate::inputs::{altered, few_codes, hex, many_codes, one, Inputs, Words};
 use crate::layout::{self, Fields};
 use crate::port;
+use crate::reach::{self, Encoding};
+use crate::walk::{self, Walk};
 use crate::{absent, desc, p2m, regime};
 
 /// What a function is asked.
@@ -108,6 +110,12 @@ pub static LAYOUTS: [Layer<Fields>; 1] = [layout::LAYER];
 /// The functions of a layout with an arena and two maps.
 pub static SCENES: [Layer<Scene>; 1] = [encode::LAYER];
 
+/// The functions of an address and the tables that it is looked up in.
+pub static WALKS: [Layer<Walk>; 1] = [walk::LAYER];
+
+/// The same, where the tables are what a scene is encoded to.
+pub static ENCODINGS: [Layer<Encoding>; 1] = [reach::LAYER];
+
 /// The functions that fill two maps from edges.
 pub static FILLINGS: [Layer<Filling>; 1] = [fill::LAYER];
 
@@ -137,6 +145,8 @@ pub fn fault_names() -> impl Iterator<Item = &'static str> {
     names(&WORDS)
         .chain(names(&LAYOUTS))
         .chain(names(&SCENES))
+        .chain(names(&WALKS))
+        .chain(names(&ENCODINGS))
         .chain(names(&FILLINGS))
         .chain(names(&GRANTED))
         .chain(names(&LINKED))

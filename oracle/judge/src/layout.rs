@@ -171,9 +171,9 @@ const CHECKS: [&str; 6] = [
     "guest image",
     "device",
 ];
-const TABLE_NAMES: [&str; 6] = ["l1", "l2_code", "l2_data", "l3_data", "l2_sup", "l2_dev"];
+pub const TABLE_NAMES: [&str; 6] = ["l1", "l2_code", "l2_data", "l3_data", "l2_sup", "l2_dev"];
 
-fn code(names: &[&str], name: &str) -> u64 {
+pub fn code(names: &[&str], name: &str) -> u64 {
     let place = names.iter().position(|known| *known == name);
     1 + place.unwrap_or_else(|| panic!("document 01 does not number {name}")) as u64
 }

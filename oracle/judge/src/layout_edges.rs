@@ -119,7 +119,7 @@ fn others(x: &Fields, window: Window) -> impl Iterator<Item = Window> {
 }
 
 /// The point, and what is one unit below and above.
-fn around(point: u64, units: &[u64]) -> Vec<u64> {
+pub fn around(point: u64, units: &[u64]) -> Vec<u64> {
     let neighbours = units
         .iter()
         .flat_map(|unit| [point.wrapping_sub(*unit), point.wrapping_add(*unit)]);

@@ -2,14 +2,16 @@
 
 use crate::compare::{compare, Difference};
 use crate::function::{
-    fault_names, faults, functions, Fault, Input, Layer, FILLINGS, GRANTED, LAYOUTS, LINKED,
-    SCENES, TEXTS, WORDS,
+    fault_names, faults, functions, Fault, Input, Layer, ENCODINGS, FILLINGS, GRANTED, LAYOUTS,
+    LINKED, SCENES, TEXTS, WALKS, WORDS,
 };
 
 pub fn self_test() -> Result<(), String> {
     let missed = missed(&WORDS)
         + missed(&LAYOUTS)
         + missed(&SCENES)
+        + missed(&WALKS)
+        + missed(&ENCODINGS)
         + missed(&FILLINGS)
         + missed(&GRANTED)
         + missed(&LINKED)

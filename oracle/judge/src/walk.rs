@@ -1,0 +1,109 @@
+//! arm64.rs: `walk`, over an arena whose tables stand at six addresses.
+//!
+//! Row 1 is not in the Rust: it is computed here from document 01's table.
+
+use std::fmt::{self, Display, Formatter};
+use std::rc::Rc;
+
+use given_s2::arm64::{self, Reach};
+
+use crate::encode::{row_1, TABLE_LEN};
+use crate::function::{Answer, Function, Input, Layer};
+use crate::inputs::{hex, words, Outcome};
+use crate::layout::{row, LEAST};
+use crate::maps;
+use crate::port_walk;
+use crate::reach::{self, NOTHING};
+use crate::walk_inputs::{damaged_walks, example_walks, ringed_walks};
+use crate::{walk_faults, walk_word_faults};
+
+/// An address that is looked up. One arena is walked many times.
+#[derive(Clone)]
+pub struct Walk {
+    pub arena: Rc<Vec<u64>>,
+    pub tables: [u64; 6],
+    pub ipa: u64,
+}
+
+pub const LAYER: Layer<Walk> = Layer {
+    functions: &[
+        Function {
+            name: "walk",
+            op: (),
+            original: walk,
+            boundary: || Box::new(example_walks()),
+            sweep: |scale| Box::new(damaged_walks(scale).chain(ringed_walks(scale))),
+            answers: ANSWERS,
+            least: LEAST,
+            recorded: false,
+        },
+        Function {
+            name: "walk, encoded",
+            op: (),
+            original: walk,
+            boundary: || Box::new((reach::FUNCTION.boundary)().map(|x| x.walk)),
+            sweep: |scale| Box::new((reach::FUNCTION.sweep)(scale).map(|x| x.walk)),
+            answers: reach::ANSWERS,
+            least: LEAST,
+            recorded: false,
+        },
+    ],
+    faults: &[walk_faults::FAULTS, walk_word_faults::FAULTS],
+};
+
+const ANSWERS: &[Answer] = &[
+    reach::ANSWERS[0],
+    reach::ANSWERS[1],
+    reach::ANSWERS[2],
+    reach::ANSWERS[3],
+    reach::ANSWERS[4],
+    ("row 1", row::<1>),
+];
+
+impl Input for Walk {
+    type Op = ();
+    type Reply = Outcome;
+
+    fn port(&self, (): ()) -> Outcome {
+        port_walk::walk(self)
+    }
+
+    fn shown(&self) -> String {
+        self.to_string()
+    }
+}
+
+pub fn walk(x: &Walk) -> Outcome {
+    row_1(&x.arena).unwrap_or_else(|| original(x))
+}
+
+/// A fetch reads the first table whose address is exactly the one named, else zero.
+fn original(x: &Walk) -> Outcome {
+    let (tables, _) = x.arena.as_chunks::<TABLE_LEN>();
+    let fetch = |address, index| {
+        let mut named = x.tables.iter().zip(tables);
+        named
+            .find(|(table, _)| **table == address)
+            .map_or(0, |(_, words)| words[index as usize])
+    };
+    reached(arm64::walk(x.tables[0], x.ipa, fetch))
+}
+
+pub fn reached(reach: Option<Reach>) -> Outcome {
+    match reach {
+        Some(Reach { pa, perm, xn }) => words([0, 1, pa, maps::code(Some(perm)).into(), xn.into()]),
+        None => NOTHING,
+    }
+}
+
+impl Display for Walk {
+    fn fmt(&self, f: &mut Formatter) -> fmt::Result {
+        let Walk { arena, tables, ipa } = self;
+        let words = arena.iter().filter(|word| **word != 0).count();
+        let (len, tables) = (arena.len(), hex(tables));
+        write!(
+            f,
+            "{ipa:#x}, arena {len} with {words} words, tables {tables}"
+        )
+    }
+}
