@@ -1,9 +1,9 @@
 /* Stage-2 translation tables for board code: the calls of libs2.a.
  *
  * A call returns 0 where it accepts, else the number of document 01's row that refuses. `values` always has all its eight places
- * written: the values that the row carries, in document 01's order, and zeros after them. An optional value is 1 and the value, or 0
- * and 0. A call that refuses changes nothing but `values`; s2_fill alone leaves in both maps, on 15 and 16, the edges before the
- * failing one, and on 17 all edges.
+ * written: the values that the row carries, in document 01's order, and zeros after them. Where no row refuses, s2_walk and s2_exposed
+ * tell there what they find, and all other calls leave zeros. An optional value is 1 and the value, or 0 and 0. A call that refuses
+ * changes nothing but `values`; s2_fill alone leaves in both maps, on 15 and 16, the edges before the failing one, and on 17 all edges.
  *
  * Nothing is asked of the numbers. Each pointer is aligned, not null, and to as many elements as the length beside it says; what a call
  * may write overlaps nothing else that it is lent.
@@ -25,13 +25,19 @@
  * 15      parent
  * 16      child, capacity
  * 17      frame
+ * 18      table, index, table pa found (optional), pa expected
+ * 19      leaf found (optional), pa expected
+ * 20      frame, leaf found (optional), pa and access expected (optional)
+ * 21      table, index, word
+ * 22      index, word
  * 23      domain, frame, owner (optional), permission
  * 24      domain, frame, owner
  * 25      domain, frame, mapped, expected
  *
  * Codes: maps 1 base, 2 super (the one map of s2_authorized is 1); windows 1 image, 2 data, 3 super, 4 device; tables 1 l1,
  * 2 l2_code, 3 l2_data, 4 l3_data, 5 l2_sup, 6 l2_dev; checks 1 data ipa, 2 data pa, 3 super ipa, 4 super pa, 5 image, 6 device.
- * A permission, and an entry of a map, is 0 none, 1 Ro, 2 Rw, 3 Rx.
+ * A permission, and an entry of a map, is 0 none, 1 Ro, 2 Rw, 3 Rx. A leaf is pa, access and never: an access is 1 Ro or 2 Rw, and
+ * never is 1 where it is never executed, else 0; an Rx entry is a leaf with access 1 and never 0.
  */
 #ifndef DERVHALT_S2_H
 #define DERVHALT_S2_H
@@ -49,15 +55,19 @@ extern "C" {
 /* The most entries of a map. */
 #define S2_MAP_LEN 512
 
-/* A layout: document 01's sixteen fields in their order, with whether there is an image just before the image. Of `has_image` and
- * `sup_wx_exempt`, zero is no and all else yes. */
-#define S2_LAYOUT \
+/* Where tables 1 to 6 stand. */
+#define S2_TABLES \
     uint64_t l1_pa, \
     uint64_t l2_code_pa, \
     uint64_t l2_data_pa, \
     uint64_t l3_data_pa, \
     uint64_t l2_sup_pa, \
-    uint64_t l2_dev_pa, \
+    uint64_t l2_dev_pa
+
+/* A layout: document 01's sixteen fields in their order, with whether there is an image just before the image. Of `has_image` and
+ * `sup_wx_exempt`, zero is no and all else yes. */
+#define S2_LAYOUT \
+    S2_TABLES, \
     uint64_t has_image, \
     uint64_t guest_image_pa, \
     uint64_t data_ipa_base, \
@@ -90,6 +100,27 @@ uint32_t s2_encode(
     const uint8_t *sup, size_t sup_len,
     S2_LAYOUT,
     uint64_t values[8]);
+
+/* What an address reaches: row 1. The walk starts at l1_pa; a fetch reads the first table whose address is exactly the one named, else
+ * zero. It tells 1 and the leaf, with the offset of the address joined to pa, or zeros where it reaches nothing. */
+uint32_t s2_walk(
+    const uint64_t *arena, size_t arena_len,
+    S2_TABLES,
+    uint64_t ipa,
+    uint64_t values[8]);
+
+/* Whether the arena is what the layout and the maps are encoded to: rows 1 to 12 and 18 to 22. It accepts words that the decoders
+ * read as nothing and does not read a device's access, so what it accepts does not bound a walk. */
+uint32_t s2_verify(
+    const uint64_t *arena, size_t arena_len,
+    const uint8_t *base, size_t base_len,
+    const uint8_t *sup, size_t sup_len,
+    S2_LAYOUT,
+    uint64_t values[8]);
+
+/* Whether a table lies in the output of a window: rows 4 to 12. It tells 1, the lowest such table and the lowest window that it lies
+ * in, or zeros where there is none. */
+uint32_t s2_exposed(S2_LAYOUT, uint64_t values[8]);
 
 /* Whether the domain may reach every frame that the map maps: rows 2, 3, 23 and 24. A grant is grantor, grantee, frame, writable. */
 uint32_t s2_authorized(

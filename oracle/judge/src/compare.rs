@@ -3,8 +3,8 @@
 use std::fmt::{self, Display, Formatter};
 
 use crate::function::{
-    faults, functions, Fault, Function, Input, Layer, Reply, ENCODINGS, FILLINGS, GRANTED, LAYOUTS,
-    LINKED, SCENES, TEXTS, WALKS, WORDS,
+    faults, functions, Fault, Function, Input, Layer, Reply, ARENAS, ENCODINGS, EXPOSED, FILLINGS,
+    GRANTED, LAYOUTS, LINKED, SCENES, TEXTS, WALKS, WORDS,
 };
 use crate::tally::Tally;
 
@@ -15,6 +15,8 @@ pub fn compare_all(scale: usize, fault: Option<&str>) -> Result<(), String> {
         + compare_layers(&SCENES, scale, fault)?
         + compare_layers(&WALKS, scale, fault)?
         + compare_layers(&ENCODINGS, scale, fault)?
+        + compare_layers(&ARENAS, scale, fault)?
+        + compare_layers(&EXPOSED, scale, fault)?
         + compare_layers(&FILLINGS, scale, fault)?
         + compare_layers(&GRANTED, scale, fault)?
         + compare_layers(&LINKED, scale, fault)?

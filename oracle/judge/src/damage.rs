@@ -1,6 +1,6 @@
 //! What may have become of a word of an encoded arena.
 
-use crate::descriptors::{descriptor, ACCESS, ACCESSED, EXECUTE_NEVER, TYPE};
+use crate::descriptors::{descriptor, ACCESS, ACCESSED, ADDRESS, EXECUTE_NEVER, TYPE};
 use crate::encode::{table, ARENA_LEN};
 use crate::inputs::Random;
 use crate::layout::PAGE;
@@ -25,7 +25,7 @@ fn in_use(arena: &[u64], number: usize, from: usize) -> Option<usize> {
 /// Puts another word there, or one that differs in a field, or another word of the arena.
 pub fn damage(random: &mut Random, arena: &mut [u64], place: usize, tables: &[u64]) {
     let word = arena[place];
-    arena[place] = match random.below(12) {
+    arena[place] = match random.below(13) {
         0 | 1 => 0,
         2 => word ^ 1 << random.below(64),
         3 => word & !TYPE | random.below(4),
@@ -36,6 +36,7 @@ pub fn damage(random: &mut Random, arena: &mut [u64], place: usize, tables: &[u6
         8 => word | random.word() << 48,
         9 => arena[place ^ 1],
         10 => arena[random.below(ARENA_LEN as u64) as usize],
+        11 => word & !ADDRESS | random.pick(tables) & ADDRESS,
         _ => descriptor(random, tables),
     };
 }

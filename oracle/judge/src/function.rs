@@ -4,11 +4,13 @@ use crate::authorized::{self, Granted};
 use crate::dump::{self, Text};
 use crate::encode::{self, Scene};
 use crate::exact::{self, Linked};
+use crate::exposed::{self, Exposed};
 use crate::fill::{self, Filling};
 use crate::inputs::{altered, few_codes, hex, many_codes, one, Inputs, Words};
 use crate::layout::{self, Fields};
 use crate::port;
 use crate::reach::{self, Encoding};
+use crate::verify::{self, Arena};
 use crate::walk::{self, Walk};
 use crate::{absent, desc, p2m, regime};
 
@@ -116,6 +118,12 @@ pub static WALKS: [Layer<Walk>; 1] = [walk::LAYER];
 /// The same, where the tables are what a scene is encoded to.
 pub static ENCODINGS: [Layer<Encoding>; 1] = [reach::LAYER];
 
+/// The functions that read a layout's arena.
+pub static ARENAS: [Layer<Arena>; 1] = [verify::LAYER];
+
+/// The functions that look for a layout's tables in its windows.
+pub static EXPOSED: [Layer<Exposed>; 1] = [exposed::LAYER];
+
 /// The functions that fill two maps from edges.
 pub static FILLINGS: [Layer<Filling>; 1] = [fill::LAYER];
 
@@ -147,6 +155,8 @@ pub fn fault_names() -> impl Iterator<Item = &'static str> {
         .chain(names(&SCENES))
         .chain(names(&WALKS))
         .chain(names(&ENCODINGS))
+        .chain(names(&ARENAS))
+        .chain(names(&EXPOSED))
         .chain(names(&FILLINGS))
         .chain(names(&GRANTED))
         .chain(names(&LINKED))

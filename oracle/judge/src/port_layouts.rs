@@ -55,6 +55,54 @@ extern "C" {
         sup_frames: u64,
         values: *mut u64,
     ) -> u32;
+
+    fn s2_verify(
+        arena: *const u64,
+        arena_len: usize,
+        base: *const u8,
+        base_len: usize,
+        sup: *const u8,
+        sup_len: usize,
+        l1_pa: u64,
+        l2_code_pa: u64,
+        l2_data_pa: u64,
+        l3_data_pa: u64,
+        l2_sup_pa: u64,
+        l2_dev_pa: u64,
+        has_image: u64,
+        guest_image_pa: u64,
+        data_ipa_base: u64,
+        data_pa_base: u64,
+        frame_size: u64,
+        sup_ipa_base: u64,
+        sup_pa_base: u64,
+        device_base: u64,
+        device_len: u64,
+        sup_wx_exempt: u64,
+        sup_frames: u64,
+        values: *mut u64,
+    ) -> u32;
+
+    fn s2_exposed(
+        l1_pa: u64,
+        l2_code_pa: u64,
+        l2_data_pa: u64,
+        l3_data_pa: u64,
+        l2_sup_pa: u64,
+        l2_dev_pa: u64,
+        has_image: u64,
+        guest_image_pa: u64,
+        data_ipa_base: u64,
+        data_pa_base: u64,
+        frame_size: u64,
+        sup_ipa_base: u64,
+        sup_pa_base: u64,
+        device_base: u64,
+        device_len: u64,
+        sup_wx_exempt: u64,
+        sup_frames: u64,
+        values: *mut u64,
+    ) -> u32;
 }
 
 /// Calls a function with a layout as its parameters, between those before and after it.
@@ -75,36 +123,83 @@ pub fn validate(fields: &Fields) -> Outcome {
     outcome(|values| unsafe { with_layout!(s2_validate, [], *fields, values) })
 }
 
-/// The reply to a scene. It fails if the call has changed a map, or what stands around what it was
-/// lent.
+pub fn exposed(fields: &Fields) -> Outcome {
+    // SAFETY: `s2_exposed` writes eight values.
+    outcome(|values| unsafe { with_layout!(s2_exposed, [], *fields, values) })
+}
+
+/// The parameters before a layout: the arena and each map with its length.
+macro_rules! with_scene {
+    ($function:ident, $scene:expr, $lent:expr, $values:expr) => {{
+        let (
+            Scene {
+                arena,
+                base,
+                sup,
+                fields,
+            },
+            lent,
+        ) = ($scene, $lent);
+        with_layout!(
+            $function,
+            [
+                lent.arena,
+                arena.len(),
+                lent.base,
+                base.len(),
+                lent.sup,
+                sup.len()
+            ],
+            *fields,
+            $values
+        )
+    }};
+}
+
 pub fn encode(scene: &Scene) -> Encoded {
+    // SAFETY: the arena and each map are as long as is said, and eight values are written.
+    lend("s2_encode", scene, |lent, values| unsafe {
+        with_scene!(s2_encode, scene, lent, values)
+    })
+}
+
+/// The answer to a scene. It fails if the call has changed the arena.
+pub fn verify(scene: &Scene) -> Outcome {
+    // SAFETY: the arena and each map are as long as is said, and eight values are written.
+    let reply = lend("s2_verify", scene, |lent, values| unsafe {
+        with_scene!(s2_verify, scene, lent, values)
+    });
+    let unchanged = reply.arena == scene.arena;
+    assert!(unchanged, "s2_verify stores into the arena of {scene}");
+    reply.outcome
+}
+
+/// Where the arena and the maps start. All may be written through, so that a store shows.
+struct Lent {
+    arena: *mut u64,
+    base: *mut u8,
+    sup: *mut u8,
+}
+
+/// What a call answers and leaves in the arena. It fails if the call has changed a map, or what
+/// stands around what it was lent.
+fn lend(name: &str, scene: &Scene, call: impl FnOnce(Lent, *mut u64) -> u32) -> Encoded {
     let mut arena = Fenced::new(&scene.arena, UNWRITTEN);
     let mut base = Fenced::new(&scene.base, NO_PERMISSION);
     let mut sup = Fenced::new(&scene.sup, NO_PERMISSION);
-    // SAFETY: the arena and each map are as long as is said, and eight values are written. The maps
-    // may be written through, so that a store shows below.
-    let outcome = outcome(|values| unsafe {
-        with_layout!(
-            s2_encode,
-            [
-                arena.as_mut_ptr(),
-                scene.arena.len(),
-                base.as_mut_ptr(),
-                scene.base.len(),
-                sup.as_mut_ptr(),
-                scene.sup.len()
-            ],
-            scene.fields,
-            values
-        )
-    });
+    let lent = Lent {
+        arena: arena.as_mut_ptr(),
+        base: base.as_mut_ptr(),
+        sup: sup.as_mut_ptr(),
+    };
+    let outcome = outcome(|values| call(lent, values));
     let unchanged = base.lent() == Some(&scene.base[..]) && sup.lent() == Some(&scene.sup[..]);
-    assert!(unchanged, "s2_encode stores into the maps of {scene}");
+    assert!(unchanged, "{name} stores into the maps of {scene}");
     match arena.lent() {
         Some(arena) => Encoded {
             outcome,
             arena: arena.to_vec(),
         },
-        None => panic!("s2_encode stores around the arena of {scene}"),
+        None => panic!("{name} stores around the arena of {scene}"),
     }
 }

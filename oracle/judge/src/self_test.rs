@@ -2,8 +2,8 @@
 
 use crate::compare::{compare, Difference};
 use crate::function::{
-    fault_names, faults, functions, Fault, Input, Layer, ENCODINGS, FILLINGS, GRANTED, LAYOUTS,
-    LINKED, SCENES, TEXTS, WALKS, WORDS,
+    fault_names, faults, functions, Fault, Input, Layer, ARENAS, ENCODINGS, EXPOSED, FILLINGS,
+    GRANTED, LAYOUTS, LINKED, SCENES, TEXTS, WALKS, WORDS,
 };
 
 pub fn self_test() -> Result<(), String> {
@@ -12,6 +12,8 @@ pub fn self_test() -> Result<(), String> {
         + missed(&SCENES)
         + missed(&WALKS)
         + missed(&ENCODINGS)
+        + missed(&ARENAS)
+        + missed(&EXPOSED)
         + missed(&FILLINGS)
         + missed(&GRANTED)
         + missed(&LINKED)

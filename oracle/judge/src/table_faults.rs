@@ -248,7 +248,7 @@ fn l1_astray<const WINDOW: usize, const TABLE: usize>(scene: &Scene, reply: &mut
 }
 
 /// The place of the slot that an address has in a table of level 2.
-fn l2_place(number: usize, address: u64) -> usize {
+pub fn l2_place(number: usize, address: u64) -> usize {
     table(number).start + (address / BLOCK % 512) as usize
 }
 

@@ -94,7 +94,7 @@ fn damaged(random: &mut Random) -> Vec<Walk> {
 
 /// Walks over arenas in which every word may name a table, or the table that it stands in.
 pub fn ringed_walks(scale: usize) -> impl Iterator<Item = Walk> {
-    random(Random(44), 4_000 * scale, ringed).flatten()
+    random(Random(44), 5_000 * scale, ringed).flatten()
 }
 
 fn ringed(random: &mut Random) -> Vec<Walk> {
