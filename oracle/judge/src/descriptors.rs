@@ -19,8 +19,11 @@ pub const WORDS: [u64; 9] = [
 /// The bits of a word that hold an address.
 pub const ADDRESS: u64 = OUTPUT_LIMIT - PAGE;
 
-/// The bits of a word that hold the access, and those that hold the type.
+/// The bits of a word that hold the access, and the one of them that allows writing.
 pub const ACCESS: u64 = 3 << 6;
+pub const WRITABLE: u64 = 1 << 7;
+
+/// The bits of a word that hold the type.
 pub const TYPE: u64 = 3;
 
 /// The bit that is clear where the first access faults.

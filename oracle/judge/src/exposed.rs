@@ -73,7 +73,7 @@ impl Input for Exposed {
     }
 }
 
-fn exposed(x: &Exposed) -> Outcome {
+pub fn exposed(x: &Exposed) -> Outcome {
     match validate(&x.0) {
         ACCEPTED => first(&x.0, holds),
         refusal => refusal,

@@ -1,7 +1,7 @@
 //! Layouts with tables in their windows, next to them, and where only an input is.
 
 use crate::examples::{examples, Example};
-use crate::exposed::{Exposed, LAYER};
+use crate::exposed::{exposed, Exposed};
 use crate::inputs::{random, Random};
 use crate::layout::{
     all_windows, BLOCK, IMAGE, IMAGE_PRESENT, L1, L2_CODE, L2_DATA, L2_DEV, L2_SUP, L3_DATA,
@@ -37,7 +37,7 @@ const EXAMPLES: &[Example<Exposed>] = &[
 ];
 
 pub fn example_layouts() -> impl Iterator<Item = Exposed> {
-    examples(EXAMPLES, || Exposed(SCENE), LAYER.functions[0].original)
+    examples(EXAMPLES, || Exposed(SCENE), exposed)
 }
 
 pub fn around_windows(scale: usize) -> impl Iterator<Item = Exposed> {

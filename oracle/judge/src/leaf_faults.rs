@@ -1,5 +1,6 @@
 //! Slips of a port that encodes: in the pages and supers that the maps say, and in the exemption.
 
+use crate::descriptors::{ACCESSED, EXECUTE_NEVER, WRITABLE};
 use crate::encode::{table, Encoded, Scene};
 use crate::encode_row_faults::fault;
 use crate::function::{with, Fault};
@@ -9,10 +10,6 @@ use crate::layout::{
 use crate::map_inputs::set;
 use crate::maps::MAP_LEN;
 use crate::store_faults::accepted;
-
-const EXECUTE_NEVER: u64 = 1 << 54;
-const WRITABLE: u64 = 1 << 7;
-const ACCESSED: u64 = 1 << 10;
 
 pub const FAULTS: &[Fault<Scene>] = &[
     fault(

@@ -8,12 +8,12 @@ use std::rc::Rc;
 use given_s2::arm64::window_reach;
 
 use crate::encode::Scene;
-use crate::function::{Answer, Fault, Function, Input, Layer};
+use crate::function::{Fault, Function, Input, Layer};
 use crate::inputs::{hex, Outcome};
 use crate::layout::{layout, LEAST};
 use crate::maps;
 use crate::port_walk;
-use crate::walk::{reached, Walk};
+use crate::walk::{reached, Walk, REACHED};
 use crate::walk_faults::{limit_wraps, nothing_reached, page_offset_dropped, rw_told_as_ro};
 use crate::walk_inputs::{encoded_walks, filled_walks};
 
@@ -23,37 +23,19 @@ pub struct Encoding {
     pub walk: Walk,
 }
 
-/// The answer to an address that reaches nothing.
-pub const NOTHING: Outcome = [0; 9];
-
-pub const FUNCTION: Function<Encoding> = Function {
-    name: "walk, as the windows say",
-    op: (),
-    original: reach,
-    boundary: || Box::new(filled_walks()),
-    sweep: |scale| Box::new(encoded_walks(scale)),
-    answers: ANSWERS,
-    least: LEAST,
-    recorded: false,
-};
-
 pub const LAYER: Layer<Encoding> = Layer {
-    functions: &[FUNCTION],
+    functions: &[Function {
+        name: "walk, as the windows say",
+        op: (),
+        original: reach,
+        boundary: || Box::new(filled_walks()),
+        sweep: |scale| Box::new(encoded_walks(scale)),
+        answers: REACHED,
+        least: LEAST,
+        recorded: false,
+    }],
     faults: &[FAULTS],
 };
-
-pub const ANSWERS: &[Answer] = &[
-    ("nothing", |answer| *answer == NOTHING),
-    ("Ro", leaf::<1, 0>),
-    ("Ro never", leaf::<1, 1>),
-    ("Rw", leaf::<2, 0>),
-    ("Rw never", leaf::<2, 1>),
-];
-
-/// Whether an address is reached with this access, and never executed or not.
-fn leaf<const ACCESS: u64, const NEVER: u64>(answer: &[u64]) -> bool {
-    answer[..2] == [0, 1] && answer[3..5] == [ACCESS, NEVER]
-}
 
 impl Input for Encoding {
     type Op = ();

@@ -14,7 +14,8 @@ use crate::port_layouts;
 use crate::verify_inputs::{
     damaged, encoded, every_place, example_arenas, filled, found, unbacked, unbacked_examples,
 };
-use crate::{verify_leaf_faults, verify_row_faults, verify_table_faults};
+use crate::{verify_leaf_faults, verify_order_faults, verify_row_faults};
+use crate::{verify_table_faults, verify_value_faults, verify_word_faults};
 
 /// A scene in the arena that may hold what it is encoded to.
 #[derive(Clone)]
@@ -50,7 +51,10 @@ pub const LAYER: Layer<Arena> = Layer {
     faults: &[
         verify_row_faults::FAULTS,
         verify_table_faults::FAULTS,
+        verify_order_faults::FAULTS,
+        verify_word_faults::FAULTS,
         verify_leaf_faults::FAULTS,
+        verify_value_faults::FAULTS,
     ],
 };
 

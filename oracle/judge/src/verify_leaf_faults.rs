@@ -1,20 +1,18 @@
-//! Slips of a port that verifies: in the pages and supers that the maps say, in the exemption, and
-//! in what rows 20 and 21 tell of leaves.
+//! Slips of a port that verifies: in the pages and supers that the maps say, and in the exemption.
 
 use crate::descriptors::{ACCESS, ADDRESS, EXECUTE_NEVER, TYPE};
 use crate::encode::{table, TABLE_LEN};
 use crate::encode_inputs::unmap_past_frames;
-use crate::function::{with, Fault};
+use crate::function::{with, Fault, Input};
 use crate::inputs::{words, Outcome};
 use crate::layout::{
     ACCEPTED, BLOCK, DATA_PA, EXEMPT, OUTPUT_LIMIT, PAGE, SUP_FRAMES, SUP_IPA, SUP_PA,
 };
-use crate::maps::MAP_LEN;
+use crate::mended::{change, due, mend, read, table_of, take_due};
 use crate::verify::Arena;
-use crate::verify_row_faults::{fault, read};
-use crate::verify_table_faults::{
-    change, changed, due, mend, refuse_any, sooner, table_of, take_due,
-};
+use crate::verify_order_faults::sooner;
+use crate::verify_row_faults::fault;
+use crate::verify_word_faults::refuse_any;
 
 pub const FAULTS: &[Fault<Arena>] = &[
     fault(
@@ -25,7 +23,7 @@ pub const FAULTS: &[Fault<Arena>] = &[
                 let first = first_slot(x);
                 *answer = with(x, |x| x.0.arena[table(5)].rotate_right(first));
                 if answer[..2] == [21, 5] {
-                    answer[2] = (answer[2] + 512 - first as u64) % 512;
+                    answer[2] = super_number(x, answer[2] as usize) as u64;
                 }
             }
         },
@@ -59,7 +57,7 @@ pub const FAULTS: &[Fault<Arena>] = &[
         "row 21 tells a super's number in the place of its slot",
         |x, answer| {
             if answer[..2] == [21, 5] {
-                answer[2] = (answer[2] + 512 - first_slot(x) as u64) % 512;
+                answer[2] = super_number(x, answer[2] as usize) as u64;
             }
         },
     ),
@@ -76,11 +74,8 @@ pub const FAULTS: &[Fault<Arena>] = &[
         "verify-slots-below-the-frames",
         "the slots past the frames are not tested",
         |x, answer| {
-            let (first, frames) = (first_slot(x), x.0.fields[SUP_FRAMES] as usize);
-            mend(x, answer, |place, _| {
-                let number = (TABLE_LEN + place % TABLE_LEN - first) % TABLE_LEN;
-                table(5).contains(&place) && number >= frames
-            });
+            let frames = x.0.fields[SUP_FRAMES] as usize;
+            supers_untested(x, answer, |number| number >= frames);
         },
     ),
     fault(
@@ -226,11 +221,8 @@ pub const FAULTS: &[Fault<Arena>] = &[
         "verify-supers-to-the-map",
         "the slots past the length of the super map are not tested",
         |x, answer| {
-            let (first, len) = (first_slot(x), x.0.sup.len());
-            mend(x, answer, |place, _| {
-                let number = (TABLE_LEN + place % TABLE_LEN - first) % TABLE_LEN;
-                table(5).contains(&place) && number >= len
-            });
+            let len = x.0.sup.len();
+            supers_untested(x, answer, |number| number >= len);
         },
     ),
     fault(
@@ -251,51 +243,11 @@ pub const FAULTS: &[Fault<Arena>] = &[
                 let index = answer[if answer[0] == 20 { 1 } else { 2 }];
                 let place = table(4).start + index as usize;
                 left.0.arena[place] = due(x)[place];
-                let next = changed(&left, |_, _, word| word);
+                let next = left.port(());
                 if table_of(&left, &next) != 4 {
                     break;
                 }
                 *answer = next;
-            }
-        },
-    ),
-    fault(
-        "verify-20-exchanged",
-        "row 20 carries what is expected before what is found",
-        |_, answer| {
-            if let [20, mfn, flag, pa, access, never, due, due_pa, due_access] = *answer {
-                *answer = [20, mfn, due, due_pa, due_access, never, flag, pa, access];
-            }
-        },
-    ),
-    fault(
-        "verify-20-rx",
-        "row 20 tells Rx where that is the entry",
-        |x, answer| {
-            if answer[0] == 20 {
-                let map = match table_of(x, answer) {
-                    4 => &x.0.base,
-                    _ => &x.0.sup,
-                };
-                answer[8] = map[answer[1] as usize].into();
-            }
-        },
-    ),
-    fault(
-        "verify-20-access-as-bits",
-        "row 20 tells the access that is found as a descriptor holds it",
-        |_, answer| {
-            if answer[0] == 20 && answer[4] == 2 {
-                answer[4] = 3;
-            }
-        },
-    ),
-    fault(
-        "verify-20-without-never",
-        "row 20 does not tell whether what is found is never executed",
-        |_, answer| {
-            if answer[0] == 20 {
-                answer[5] = 0;
             }
         },
     ),
@@ -315,18 +267,6 @@ pub const FAULTS: &[Fault<Arena>] = &[
             }
         },
     ),
-    fault(
-        "verify-21-as-20",
-        "a page where none is due is told by row 20",
-        |_, answer| {
-            if let [21, 4, index, word, ..] = *answer {
-                let access = 1 + (word >> 7 & 1);
-                let never = u64::from(word & EXECUTE_NEVER != 0);
-                let pa = word % OUTPUT_LIMIT / PAGE * PAGE;
-                *answer = words([20, index, 1, pa, access, never]);
-            }
-        },
-    ),
 ];
 
 /// The slot of super 0.
@@ -334,8 +274,20 @@ fn first_slot(x: &Arena) -> usize {
     (x.0.fields[SUP_IPA] / BLOCK % 512) as usize
 }
 
+/// The number of the super in a slot.
+fn super_number(x: &Arena, slot: usize) -> usize {
+    (TABLE_LEN + slot - first_slot(x)) % TABLE_LEN
+}
+
+/// The slots of some supers are not tested.
+fn supers_untested(x: &Arena, answer: &mut Outcome, so: impl Fn(usize) -> bool) {
+    mend(x, answer, |place, _| {
+        table(5).contains(&place) && so(super_number(x, place % TABLE_LEN))
+    });
+}
+
 fn super_word(x: &Arena, number: usize) -> u64 {
-    x.0.arena[table(5)][(first_slot(x) + number) % MAP_LEN]
+    x.0.arena[table(5)][(first_slot(x) + number) % TABLE_LEN]
 }
 
 /// What an entry lets a leaf be used for: 1 Ro, 2 Rw.

@@ -1,12 +1,12 @@
-//! Slips of a port that verifies: in rows 1 to 14, and in what the rows carry.
+//! Slips of a port that verifies, in rows 1 to 14.
 
 use crate::encode::{row_13, row_14, row_2, ARENA_LEN};
 use crate::function::{with, Fault};
-use crate::inputs::{words, Outcome};
+use crate::inputs::Outcome;
 use crate::layout::ACCEPTED;
 use crate::map_faults::{four_as_3, report_last};
 use crate::maps::{self, MAP_LEN};
-use crate::port::UNWRITTEN;
+use crate::mended::read;
 use crate::port_layouts;
 use crate::undefined::defined;
 use crate::verify::{original, Arena};
@@ -131,125 +131,6 @@ pub const FAULTS: &[Fault<Arena>] = &[
             *answer = ACCEPTED;
         }
     }),
-    fault(
-        "verify-values-left-out",
-        "a refusal has its number and no values",
-        |_, answer| answer[1..].fill(0),
-    ),
-    fault(
-        "verify-value-unwritten",
-        "the last value is not written where the arena is accepted",
-        |_, answer| {
-            if *answer == ACCEPTED {
-                answer[8] = UNWRITTEN;
-            }
-        },
-    ),
-    fault(
-        "verify-values-unwritten",
-        "row 22 does not write past the values that it carries",
-        |_, answer| {
-            if answer[0] == 22 {
-                answer[3..].fill(UNWRITTEN);
-            }
-        },
-    ),
-    fault(
-        "verify-last-value-left-out",
-        "the eighth value is always zero",
-        |_, answer| answer[8] = 0,
-    ),
-    fault(
-        "verify-18-exchanged",
-        "row 18 carries what is expected before what is found",
-        |_, answer| {
-            if answer[0] == 18 {
-                answer.swap(4, 5);
-            }
-        },
-    ),
-    fault(
-        "verify-18-without-flag",
-        "row 18 does not tell whether a table is found",
-        |_, answer| {
-            if answer[0] == 18 {
-                answer[3..].rotate_left(1);
-                answer[8] = 0;
-            }
-        },
-    ),
-    fault(
-        "verify-18-always-l1",
-        "row 18 tells l1 for l2_data too",
-        |_, answer| {
-            if answer[0] == 18 {
-                answer[1] = 1;
-            }
-        },
-    ),
-    fault(
-        "verify-18-as-20",
-        "the word of l2_data that is not due is told by row 20",
-        |_, answer| {
-            if answer[..2] == [18, 3] {
-                answer[0] = 20;
-            }
-        },
-    ),
-    fault(
-        "verify-19-without-access",
-        "row 19 does not tell the access that is found",
-        |_, answer| {
-            if answer[0] == 19 {
-                answer[3] = 0;
-            }
-        },
-    ),
-    fault(
-        "verify-19-exchanged",
-        "row 19 carries the address that is expected before the one that is found",
-        |_, answer| {
-            if answer[0] == 19 {
-                answer.swap(2, 5);
-            }
-        },
-    ),
-    fault(
-        "verify-21-in-the-arena",
-        "the index of a word is counted from the start of the arena",
-        |_, answer| {
-            if answer[0] == 21 {
-                answer[2] += 512 * (answer[1] - 1);
-            }
-        },
-    ),
-    fault(
-        "verify-21-without-word",
-        "row 21 does not carry the word",
-        |_, answer| {
-            if answer[0] == 21 {
-                answer[3] = 0;
-            }
-        },
-    ),
-    fault(
-        "verify-22-as-21",
-        "a device block that is not due is told by row 21",
-        |_, answer| {
-            if let [22, index, word, ..] = *answer {
-                *answer = words([21, 6, index, word]);
-            }
-        },
-    ),
-    fault(
-        "verify-21-as-22",
-        "a word in an empty device slot is told by row 22",
-        |_, answer| {
-            if let [21, 6, index, word, ..] = *answer {
-                *answer = words([22, index, word]);
-            }
-        },
-    ),
 ];
 
 pub const fn fault(
@@ -263,9 +144,4 @@ pub const fn fault(
         op: (),
         alter,
     }
-}
-
-/// Whether no row refuses before the arena is read.
-pub fn read(answer: &Outcome) -> bool {
-    *answer == ACCEPTED || answer[0] >= 18
 }

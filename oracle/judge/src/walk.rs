@@ -13,8 +13,7 @@ use crate::inputs::{hex, words, Outcome};
 use crate::layout::{row, LEAST};
 use crate::maps;
 use crate::port_walk;
-use crate::reach::{self, NOTHING};
-use crate::walk_inputs::{damaged_walks, example_walks, ringed_walks};
+use crate::walk_inputs::{damaged_walks, encoded_walks, example_walks, filled_walks, ringed_walks};
 use crate::{walk_faults, walk_word_faults};
 
 /// An address that is looked up. One arena is walked many times.
@@ -41,9 +40,9 @@ pub const LAYER: Layer<Walk> = Layer {
             name: "walk, encoded",
             op: (),
             original: walk,
-            boundary: || Box::new((reach::FUNCTION.boundary)().map(|x| x.walk)),
-            sweep: |scale| Box::new((reach::FUNCTION.sweep)(scale).map(|x| x.walk)),
-            answers: reach::ANSWERS,
+            boundary: || Box::new(filled_walks().map(|x| x.walk)),
+            sweep: |scale| Box::new(encoded_walks(scale).map(|x| x.walk)),
+            answers: REACHED,
             least: LEAST,
             recorded: false,
         },
@@ -52,13 +51,24 @@ pub const LAYER: Layer<Walk> = Layer {
 };
 
 const ANSWERS: &[Answer] = &[
-    reach::ANSWERS[0],
-    reach::ANSWERS[1],
-    reach::ANSWERS[2],
-    reach::ANSWERS[3],
-    reach::ANSWERS[4],
+    ("nothing", |answer| *answer == NOTHING),
+    ("Ro", leaf::<1, 0>),
+    ("Ro never", leaf::<1, 1>),
+    ("Rw", leaf::<2, 0>),
+    ("Rw never", leaf::<2, 1>),
     ("row 1", row::<1>),
 ];
+
+/// The answers that an encoded arena has.
+pub const REACHED: &[Answer] = ANSWERS.split_at(5).0;
+
+/// Whether an address is reached with this access, and never executed or not.
+fn leaf<const ACCESS: u64, const NEVER: u64>(answer: &[u64]) -> bool {
+    answer[..2] == [0, 1] && answer[3..5] == [ACCESS, NEVER]
+}
+
+/// The answer to an address that reaches nothing.
+pub const NOTHING: Outcome = [0; 9];
 
 impl Input for Walk {
     type Op = ();

@@ -9,8 +9,7 @@ use crate::function::{with, Fault};
 use crate::inputs::Outcome;
 use crate::layout::{BLOCK, INPUT_LIMIT, L1_SPAN, PAGE};
 use crate::port::UNWRITTEN;
-use crate::reach::NOTHING;
-use crate::walk::Walk;
+use crate::walk::{Walk, NOTHING};
 
 pub const FAULTS: &[Fault<Walk>] = &[
     fault(
@@ -169,7 +168,7 @@ pub const FAULTS: &[Fault<Walk>] = &[
         "walk-rx-told",
         "what can be read and executed is told as Rx",
         |_, answer| {
-            if answer[1..] == [1, answer[2], 1, 0, 0, 0, 0, 0] {
+            if answer[..2] == [0, 1] && answer[3..5] == [1, 0] {
                 answer[3] = 3;
             }
         },

@@ -1,12 +1,11 @@
 //! Slips of a port that walks, in what it makes of the words that it reads.
 
-use crate::descriptors::{ACCESS, ACCESSED, ADDRESS, EXECUTE_NEVER, TYPE};
+use crate::descriptors::{ACCESS, ACCESSED, ADDRESS, EXECUTE_NEVER, TYPE, WRITABLE};
 use crate::encode::{table, ARENA_LEN};
 use crate::function::Fault;
 use crate::inputs::{words, Outcome};
 use crate::layout::{BLOCK, INPUT_LIMIT, L1_SPAN, PAGE};
-use crate::reach::NOTHING;
-use crate::walk::Walk;
+use crate::walk::{Walk, NOTHING};
 use crate::walk_faults::{fault, with_arena};
 
 pub const FAULTS: &[Fault<Walk>] = &[
@@ -163,7 +162,7 @@ pub const FAULTS: &[Fault<Walk>] = &[
         "walk-tables-read-only",
         "what is reached by a table's word without the bit for writing is told as Ro",
         |x, answer| {
-            if answer[1] == 1 && read(x).iter().any(|word| word & 1 << 7 == 0) {
+            if answer[1] == 1 && read(x).iter().any(|word| word & WRITABLE == 0) {
                 answer[3] = 1;
             }
         },
