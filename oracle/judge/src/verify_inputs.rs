@@ -1,7 +1,7 @@
 //! Arenas as they are encoded, with a word changed, over old words, and of anything.
 
 use crate::damage::{damage, place};
-use crate::descriptors::{ACCESS, ADDRESS, WORDS};
+use crate::descriptors::{ACCESS, ACCESSED, ADDRESS, WORDS};
 use crate::encode::{emitted, table, Scene, ARENA_LEN};
 use crate::encode_inputs::{
     accepted_map, accepted_scene, changed_scenes, equate_tables, filled_scenes, scene, scenes,
@@ -33,9 +33,15 @@ const EXAMPLES: &[Example<Arena>] = &[
     (&[20, 1, 0, 0, 0, 0, 1, 0x5000_1000, 2], |x| put(x, 4, 1, 0)),
     (&[21, 3, 7, 1], |x| put(x, 3, 7, 1)),
     (&[22, 72, 0], |x| put(x, 6, 72, 0)),
-    // Neither of these words is read as anything, and the access of a device is not read.
+    // The decoders read none of these words as anything: a block and a page that can only be
+    // written in l3_data, tables in l2_sup and l2_dev, normal memory in l2_dev.
+    (&[0], |x| put(x, 4, 0, 1)),
+    (&[0], |x| put(x, 4, 0, 0x5000_0483)),
     (&[0], |x| put(x, 5, 7, 0x4000_4003)),
+    (&[0], |x| put(x, 6, 7, 0x4000_3003)),
     (&[0], |x| put(x, 6, 7, 0x0040_0000_00e0_07fd)),
+    // Neither the access flag of a page is read nor the access of a device.
+    (&[0], |x| x.0.arena[table(4)][1] &= !ACCESSED),
     (&[0], |x| x.0.arena[table(6)][72] &= !ACCESS),
     // Rows 13 and 14 are not tested.
     (&[0], |x| {

@@ -4,7 +4,7 @@ use std::rc::Rc;
 
 use crate::damage::{damage, place};
 use crate::descriptors::descriptor;
-use crate::encode::{emitted, Scene, ARENA_LEN};
+use crate::encode::{emitted, table, Scene, ARENA_LEN};
 use crate::encode_inputs::{accepted_scene, filled_scenes, scene};
 use crate::examples::{examples, Example};
 use crate::inputs::{altered, random, Random};
@@ -14,7 +14,7 @@ use crate::reach::Encoding;
 use crate::walk::{walk, Walk};
 use crate::walk_addresses::{addresses, alias, anywhere, through, LIMITS};
 
-/// Document 01's walks of scene S, and row 1.
+/// Document 01's walks of scene S, two more with a word changed, and row 1.
 const EXAMPLES: &[Example<Walk>] = &[
     (&[0, 1, 0x5000_1234, 2, 1], |x| x.ipa = 0x8000_1234),
     (&[0, 0], |x| x.ipa = 0x8000_0000),
@@ -24,6 +24,15 @@ const EXAMPLES: &[Example<Walk>] = &[
     (&[0, 1, 0x900_0018, 2, 1], |x| x.ipa = 0x900_0018),
     (&[0, 0], |x| x.ipa = 0x920_0000),
     (&[0, 0], |x| x.ipa = 0x80_8000_1234),
+    // Verification accepts both of these words.
+    (&[0, 1, 0x5000_1234, 2, 1], |x| {
+        Rc::make_mut(&mut x.arena)[table(5)][0] = 0x4000_3003;
+        x.ipa = 0xc000_1234;
+    }),
+    (&[0, 1, 0x5000_1234, 2, 0], |x| {
+        Rc::make_mut(&mut x.arena)[table(6)][0] = 0x5000_07fd;
+        x.ipa = 0x1234;
+    }),
     (&[1], |x| Rc::make_mut(&mut x.arena).clear()),
     (&[1], |x| Rc::make_mut(&mut x.arena).truncate(ARENA_LEN - 1)),
     (&[1], |x| Rc::make_mut(&mut x.arena).push(0)),

@@ -4,7 +4,7 @@ use crate::descriptors::{ACCESS, ACCESSED, ADDRESS, EXECUTE_NEVER, TYPE, WRITABL
 use crate::encode::{table, ARENA_LEN};
 use crate::function::Fault;
 use crate::inputs::{words, Outcome};
-use crate::layout::{BLOCK, INPUT_LIMIT, L1_SPAN, PAGE};
+use crate::layout::{BLOCK, INPUT_LIMIT, L1_SPAN, OUTPUT_LIMIT, PAGE};
 use crate::walk::{Walk, NOTHING};
 use crate::walk_faults::{fault, with_arena};
 
@@ -129,7 +129,7 @@ pub const FAULTS: &[Fault<Walk>] = &[
         "the bits of a word above its address are joined to the output",
         |x, answer| {
             if let (Some(word), [0, 1, ..]) = (leaf(x), &answer[..]) {
-                answer[2] |= word & !(ADDRESS | PAGE - 1);
+                answer[2] |= word / OUTPUT_LIMIT * OUTPUT_LIMIT;
             }
         },
     ),
@@ -142,10 +142,10 @@ pub const FAULTS: &[Fault<Walk>] = &[
         "walk-tables-of-64-bits",
         "the bits of a word above its address count to the table that it names",
         |x, answer| {
-            let named = read(x);
-            let tables = named.iter().take(named.len().saturating_sub(1));
-            if tables.clone().any(|word| word & !(ADDRESS | PAGE - 1) != 0) {
-                *answer = NOTHING;
+            if let [tables @ .., _] = &read(x)[..] {
+                if tables.iter().any(|word| *word >= OUTPUT_LIMIT) {
+                    *answer = NOTHING;
+                }
             }
         },
     ),
