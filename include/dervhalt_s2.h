@@ -2,7 +2,7 @@
  *
  * A call returns 0 where it accepts, else the number of document 01's row that refuses. `values` always has all its eight places
  * written: the values that the row carries, in document 01's order, and zeros after them. Where no row refuses, s2_walk and s2_exposed
- * tell there what they find, and all other calls leave zeros. An optional value is 1 and the value, or 0 and 0. A call that refuses
+ * tell there what they find, and all other calls leave zeros. An optional value is 1 and the value, or 0 and zeros. A call that refuses
  * changes nothing but `values`; s2_fill alone leaves in both maps, on 15 and 16, the edges before the failing one, and on 17 all edges.
  *
  * Nothing is asked of the numbers. Each pointer is aligned, not null, and to as many elements as the length beside it says; what a call
