@@ -31,6 +31,11 @@ leafOf pa never NoAccess = NoLeaf
 abbrev pub leafAt : ℕ → ℕ → DecodedLeaf
 leafAt pa d = leafOf pa (executeNever d) (accessOf d)
 
+-- its output address, 0 where there is none
+abbrev pub outputOf : DecodedLeaf → ℕ
+outputOf (Leaf d) = d .pa
+outputOf NoLeaf = 0
+
 abbrev pub decodedPage : ℕ → DecodedLeaf
 decodedPage d = pick (eqb (descriptorType d) pageType) (leafAt (pageAddress d) d) NoLeaf
 

@@ -23,5 +23,8 @@ abbrev pub outputLimit : ℕ
 outputLimit = 2 ^ 48
 
 -- six tables
+abbrev pub tableCount : ℕ
+tableCount = 6
+
 abbrev pub arenaLength : ℕ
-arenaLength = 6 * entries
+arenaLength = tableCount * entries

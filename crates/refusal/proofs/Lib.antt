@@ -1,4 +1,5 @@
 pub mod First
 pub mod None
 pub mod Parts
+pub mod Told
 pub mod Words

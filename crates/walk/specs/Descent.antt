@@ -1,0 +1,57 @@
+-- The descent through the tables, by document 01 ("Arena"): from level 1 through level 2 to level 3, with remaining levels falling.
+use Prim.Native.Nat.{ℕ, zero, suc, _+_, _*_, _/_, _%_}
+use mathlib.Core.List.{List, [], _∷_}
+use lib.Dec.{eqb}
+use lib.ListN.{getD}
+use Rattle.decode.specs.Decoded.{decodedTable}
+use Rattle.decode.specs.declared.DecodedTable.{DecodedTable}
+use Rattle.decode.specs.declared.DecodedTable.the-variants.{At, Nothing}
+use Rattle.desc.specs.Descriptor.{descriptorType, blockType, pageType}
+use Rattle.fields.specs.Named.{pick}
+use Rattle.layout.specs.Size.{entries, page}
+use Rattle.walk.specs.declared.Stop.{Stop}
+use Rattle.walk.specs.declared.Stop.the-variants.{Leaf, Stopped}
+
+-- the words that a read sees, by their place in the arena
+abbrev pub Words : Type 0
+Words = ℕ → ℕ
+
+abbrev pub wordsOf : List ℕ → Words
+wordsOf arena i = getD arena i 0
+
+-- what an entry covers that has so many levels below it: a page, a block, 1 GiB
+abbrev pub entrySize : ℕ → ℕ
+entrySize zero = page
+entrySize (suc left) = entries * entrySize left
+
+-- nine index bits a level
+abbrev pub index : ℕ → ℕ → ℕ
+index left x = x / entrySize left % entries
+
+-- a fetch reads the first table whose address is exactly the one named, else what stands outside; each table has 512 words, and the
+-- first of these stands at word `from`
+unfoldable pub fetchFrom : ℕ → ℕ → List ℕ → Words → ℕ → ℕ → ℕ
+fetchFrom from outside [] words named j = outside
+fetchFrom from outside (t ∷ ts) words named j =
+    pick (eqb t named) (words (from + j)) (fetchFrom (from + entries) outside ts words named j)
+
+abbrev pub fetch : ℕ → List ℕ → Words → ℕ → ℕ → ℕ
+fetch outside tables words named j = fetchFrom 0 outside tables words named j
+
+-- where no word leads on: a page at level 3, a block at level 2; level 1 knows none
+abbrev pub endsAt : ℕ → ℕ → Stop
+endsAt zero d = pick (eqb (descriptorType d) pageType) (Leaf 3 d) (Stopped 3)
+endsAt (suc zero) d = pick (eqb (descriptorType d) blockType) (Leaf 2 d) (Stopped 2)
+endsAt (suc (suc left)) d = Stopped 1
+
+-- a table word leads to the table that it names
+abbrev pub leads : DecodedTable → (ℕ → Stop) → Stop → Stop
+leads (At named) down here = down named
+leads Nothing down here = here
+
+-- from the table named, with so many levels left below its own: each read sees words of its own, and outside the arena zero
+unfoldable pub descend : List ℕ → (ℕ → Words) → ℕ → ℕ → ℕ → Stop
+descend tables ws zero named x = endsAt 0 (fetch 0 tables (ws 0) named (index 0 x))
+descend tables ws (suc left) named x =
+    let d = fetch 0 tables (ws (suc left)) named (index (suc left) x) in
+    leads (decodedTable d) (λ next. descend tables ws left next x) (endsAt (suc left) d)

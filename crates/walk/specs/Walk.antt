@@ -1,0 +1,29 @@
+-- What a walk reaches, by document 01 ("Arena"): the reading of the leaf where the descent ends.
+use Prim.Native.Nat.{ℕ, _+_, _%_}
+use mathlib.Core.List.{List}
+use lib.Dec.{eqb, ltb}
+use lib.ListN.{getD}
+use Rattle.decode.specs.Decoded.{decodedPage, decodedBlock}
+use Rattle.decode.specs.declared.DecodedLeaf.{DecodedLeaf}
+use Rattle.decode.specs.declared.DecodedLeaf.the-variants.{Leaf as Decodes, Nothing as NoLeaf}
+use Rattle.fields.specs.Named.{pick}
+use Rattle.layout.specs.Size.{page, block, inputLimit}
+use Rattle.reach.specs.declared.Reached.{Reached}
+use Rattle.reach.specs.declared.Reached.the-variants.{At, Nothing}
+use Rattle.walk.specs.Descent.{Words, descend}
+use Rattle.walk.specs.declared.Stop.{Stop}
+use Rattle.walk.specs.declared.Stop.the-variants.{Leaf, Stopped}
+
+-- the leaf's output address, and the offset below it; access 00 or 10 reaches nothing
+abbrev pub joined : ℕ → DecodedLeaf → Reached
+joined offset (Decodes d) = At (record { pa = d .pa + offset; perm = d .perm; xn = d .xn })
+joined offset NoLeaf = Nothing
+
+-- a page at level 3, else a block
+abbrev pub reading : ℕ → Stop → Reached
+reading x (Leaf level d) = pick (eqb level 3) (joined (x % page) (decodedPage d)) (joined (x % block) (decodedBlock d))
+reading x (Stopped level) = Nothing
+
+-- it starts at the l1 address; an address of 2^39 or more reaches nothing
+unfoldable pub walkOf : List ℕ → (ℕ → Words) → ℕ → Reached
+walkOf tables ws x = pick (ltb x inputLimit) (reading x (descend tables ws 2 (getD tables 0 0) x)) Nothing
