@@ -1,0 +1,1 @@
+// What walks of encoded arenas reach: theorems alone.
