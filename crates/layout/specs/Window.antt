@@ -20,17 +20,24 @@ imageWindow Absent = window 1 false 0 0 0
 abbrev pub dataWindow : Layout → Window
 dataWindow l = window 2 true (l .«data_ipa_base») (l .«data_pa_base») (entries * page)
 
+-- so many blocks
+abbrev pub superWindowOf : Layout → ℕ → Window
+superWindowOf l frames = window 3 true (l .«sup_ipa_base») (l .«sup_pa_base») (frames * block)
+
 -- sup_frames blocks
 abbrev pub superWindow : Layout → Window
-superWindow l = window 3 true (l .«sup_ipa_base») (l .«sup_pa_base») (l .«sup_frames» * block)
+superWindow l = superWindowOf l (l .«sup_frames»)
 
 -- present if its length is above 0
 abbrev pub deviceWindow : Layout → Window
 deviceWindow l = window 4 (ltb 0 (l .«device_len»)) (l .«device_base») (l .«device_base») (l .«device_len»)
 
 -- image, data, super, device: the order of every check
+abbrev pub windowsWith : Layout → ℕ → List Window
+windowsWith l frames = imageWindow (l .«guest_image_pa») ∷ dataWindow l ∷ superWindowOf l frames ∷ deviceWindow l ∷ []
+
 abbrev pub windowsOf : Layout → List Window
-windowsOf l = imageWindow (l .«guest_image_pa») ∷ dataWindow l ∷ superWindow l ∷ deviceWindow l ∷ []
+windowsOf l = windowsWith l (l .«sup_frames»)
 
 -- the level 1 and the level 2 entry of an address
 abbrev pub l1Slot : ℕ → ℕ

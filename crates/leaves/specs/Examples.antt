@@ -32,11 +32,14 @@ authorize grants leaves = first (authorityRows frames (map grantOf grants) 3 lea
 abbrev pub exact : Span → List (List ℕ) → List ℕ → Outcome
 exact s edges leaves = first (exactRows frames 3 s (map edgeOf edges) leaves)
 
+-- four leaf edges: W, W+X, X, plain
+abbrev pub FourEdges : Type 0
+FourEdges =
+    fill (edge 2 0 0 1 1 0 ∷ edge 2 1 1 1 1 1 ∷ edge 2 2 2 0 1 1 ∷ plain 2 3 ∷ []) (9 ∷ 9 ∷ 9 ∷ 9 ∷ 9 ∷ []) (9 ∷ [])
+    ≡ filling (2 ∷ 2 ∷ 3 ∷ 1 ∷ 0 ∷ []) (0 ∷ []) accepted
+
 pub record Examples : Type 0 where
-  -- W, W+X, X, plain
-  pub four-edges :
-      fill (edge 2 0 0 1 1 0 ∷ edge 2 1 1 1 1 1 ∷ edge 2 2 2 0 1 1 ∷ plain 2 3 ∷ []) (9 ∷ 9 ∷ 9 ∷ 9 ∷ 9 ∷ []) (9 ∷ [])
-      ≡ filling (2 ∷ 2 ∷ 3 ∷ 1 ∷ 0 ∷ []) (0 ∷ []) accepted
+  pub four-edges : FourEdges
   -- a map of 513 is refused before anything is cleared
   pub row2 : fill [] (9 ∷ []) (replicate 513 9) ≡ filling (9 ∷ []) (replicate 513 9) (refused (row 2 []))
   -- a map that is filled may hold any bytes

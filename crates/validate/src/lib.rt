@@ -2,12 +2,9 @@
 use layout::Check;
 use layout::Layout;
 use layout::Table;
-use layout::Window;
 use refusal::Refusal;
 use refusal::Verdict;
-ghost use Prim.Native.Nat.{_<_, _^_};
 ghost use mathlib.Core.Path.{_≡_};
-ghost use Rattle.layout.specs.Window.{windowsOf};
 ghost use Rattle.refusal.specs.Outcome.{outcomeOf};
 ghost use Rattle.refusal.specs.Table.{first, each};
 ghost use Rattle.rows.specs.Rows.{row6, row7, refusalsAt, refusals};
@@ -47,7 +44,7 @@ pub fn validate_at(limit: u64, l: Layout) -> Verdict
             count: l.sup_frames,
         });
     }
-    windows::windows(limit, windows_of(l))
+    windows::windows(limit, windows::windows_of(l))
 }
 
 fn all_aligned(cs: [Check; Layout::CHECKS]) -> Verdict
@@ -103,25 +100,4 @@ fn nameable(limit: u64, t: Table) -> Verdict
         return unnameable;
     }
     Verdict::Accepted
-}
-
-// The four windows, of a layout that row 8 lets by: elsewhere the super's length leaves 64 bits.
-fn windows_of(l: Layout) -> [Window; Layout::WINDOWS]
-    requires { ⌜ l .«sup_frames» < 2 ^ 43 ⌝ }
-    ensures { λ r. ⌜ r ≡ windowsOf l ⌝ }
-{
-    let image = l.guest_image_pa;
-    let span = l.sup_frames * Layout::BLOCK_SIZE;
-    [
-        image.window(),
-        l.data_window(),
-        Window {
-            code: 3,
-            present: true,
-            ipa: l.sup_ipa_base,
-            pa: l.sup_pa_base,
-            span,
-        },
-        l.device_window(),
-    ]
 }

@@ -323,7 +323,7 @@ module _ (l : Layout) (base sup : List ℕ) (x : ℕ) where
         past-limit outputLimit (deviceWindow l) x (w .1 .1 .1 .0) h,
       )
 
-reaches :
+pub reaches :
     (l : Layout) (base sup : List ℕ) (words : Words) →
     Guarded outputLimit base sup l →
     ((i : ℕ) → i < arenaLength → words i ≡ target l base sup i) → (x : ℕ) → Reaches l base sup words x

@@ -1,1 +1,3 @@
 pub mod Demand2
+pub mod OutOfReach
+pub mod Tabled

@@ -12,6 +12,7 @@ use Rattle.refusal.proofs.First.{next, stop, last}
 use Rattle.refusal.specs.Outcome.{outcomeOf}
 use Rattle.refusal.specs.Table.{Row, first, each, table}
 use Rattle.rows.specs.Rows.{row4, row5, row6, row7, row8, windowRows, refusalsAt}
+use Rattle.windows.proofs.Whole.{whole}
 use Rattle.validate.proofs.validate_at.Statement.{statement}
 use Rattle.validate.proofs.validate_at.Tie as tie
 
@@ -138,9 +139,9 @@ returns-6 : tie.Need-returns-6
 unfolding flatMap
 returns-6 c =
     let e = c .before .before in
-    let limit = at8 (e .before .before) .args .limit in
+    let a = at8 (e .before .before) .args in
     last _ (c .windows .result) refl
-    (c .windows .ensures ∙ ap (λ ws. first (windowRows limit ws)) (c .before .windows-of .ensures))
+    (c .windows .ensures ∙ ap (λ ws. first (windowRows (a .limit) ws)) (c .before .windows-of .ensures ∙ whole (a .l) (e .if3 .left)))
     ∙ sym (past-8 e)
 
 pub validate-at-spec : {M : Type 1} → statement M
