@@ -49,7 +49,7 @@ image-span : (i : GuestImage) → imageWindow i .present ≡ true → imageWindo
 image-span (At pa) e = refl
 image-span Absent e = absurd (false≢true e)
 
-image-itself : (i : GuestImage) → imageWindow i .pa ≡ imageWindow i .ipa
+pub image-itself : (i : GuestImage) → imageWindow i .pa ≡ imageWindow i .ipa
 image-itself (At pa) = refl
 image-itself Absent = refl
 

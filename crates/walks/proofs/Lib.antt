@@ -2,6 +2,8 @@ pub mod Demand2
 pub mod Entries
 pub mod Fetched
 pub mod Leaves
+pub mod OutOfReach
 pub mod Seen
 pub mod Slots
+pub mod Tabled
 pub mod Windows

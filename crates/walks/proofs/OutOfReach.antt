@@ -1,0 +1,113 @@
+-- What is granted lies in an output window, where no table begins and so, both being whole pages, no byte of one stands.
+use Prim.Native.Nat.{ℕ, _+_, _-_, _/_, _%_, _≤_, _<_}
+use mathlib.Core.Bool.{Bool, true, false, false≢true}
+use mathlib.Core.List.{List, [], _∷_}
+use mathlib.Core.Path.{_≡_, refl, sym, ap, _∙_}
+use native.Mathlib.Omega.{arith}
+use lib.Dec.{eqb}
+use borrow.Author.Tests.{le-leb, lt-ltb}
+use Rattle.accepted.proofs.Guarded.{guarded-facts}
+use Rattle.accepted.specs.Accepted.{Nameable}
+use Rattle.accepted.specs.Guarded.{Guarded}
+use Rattle.desc.specs.Words.{leafAccessXn}
+use Rattle.exposed.specs.Exposed.{liesIn}
+use Rattle.fields.specs.Named.{pick}
+use Rattle.layout.specs.Layout.{tablesOf}
+use Rattle.layout.specs.Size.{page, block, outputLimit}
+use Rattle.layout.specs.Window.{imageWindow, dataWindow, superWindow, deviceWindow, windowsOf}
+use Rattle.layout.specs.declared.Layout.{Layout}
+use Rattle.layout.specs.declared.Table.{Table}
+use Rattle.layout.specs.declared.Window.{Window}
+use Rattle.perm.specs.declared.Perm.the-variants.{Ro, Rw, Rx}
+use Rattle.perm.specs.declared.Perm.{Perm}
+use Rattle.reach.specs.declared.Reach.{Reach}
+use Rattle.reach.specs.declared.Reached.{Reached}
+use Rattle.reach.specs.declared.Reached.the-variants.{At, Nothing}
+use Rattle.refusal.specs.All.{All}
+use Rattle.window_reach.proofs.Contains.{Inside, inside}
+use Rattle.window_reach.specs.Granted.{Region, regionsOf, contains, reachAt, byEntry, grantedIn, grantedBy, granted}
+use Rattle.walks.specs.OutOfReach.{ByteOf, OutOfReach}
+use Rattle.walks.proofs.Demand2.{image-itself, demand-2}
+
+abbrev outputAt : Reached → ℕ
+outputAt (At r) = r .pa
+outputAt Nothing = 0
+
+-- an entry's answer is at its output address
+at-output : (pa : ℕ) (exempt : Bool) (e : ℕ) (r : Reach) → byEntry pa exempt e ≡ At r → r .pa ≡ pa
+at-output pa exempt e r q = go (eqb e 1) (eqb e 2) (eqb e 3) q
+  where
+    reached : (p : Perm) → reachAt pa (leafAccessXn p exempt) ≡ At r → r .pa ≡ pa
+    reached p f = sym (ap outputAt f)
+
+    go :
+        (a b c : Bool) →
+        pick a (reachAt pa (leafAccessXn Ro exempt))
+        (pick b (reachAt pa (leafAccessXn Rw exempt)) (pick c (reachAt pa (leafAccessXn Rx exempt)) Nothing))
+        ≡ At r →
+        r .pa ≡ pa
+    go true b c f = reached Ro f
+    go false true c f = reached Rw f
+    go false false true f = reached Rx f
+    go false false false f = absurd (let z : _≡_ {A = ℕ} 0 1 = cc in omega arith)
+
+module _ (x : ℕ) (r : Reach) where
+  -- the answer comes from no such region
+  abbrev Not-from : Region → Type 0
+  Not-from g = Inside (g .window) x → r .pa ≡ g .window .pa + (x - g .window .ipa) → ⊥
+
+  nowhere : (gs : List Region) → grantedBy gs x ≡ At r → All Not-from gs → ⊥
+  unfolding grantedBy
+  nowhere [] e a = absurd (let z : _≡_ {A = ℕ} 0 1 = cc in omega arith)
+  nowhere (g ∷ gs) e a = go (contains (g .window) x) refl e (λ f. nowhere gs f (a .1))
+    where
+      go :
+          (b : Bool) → contains (g .window) x ≡ b → pick b (grantedIn g x) (grantedBy gs x) ≡ At r →
+          (grantedBy gs x ≡ At r → ⊥) → ⊥
+      go true c f later = a .0 (inside (g .window) x c) (at-output _ (g .exempt) (g .entry ((x - g .window .ipa) / g .piece)) r f)
+      go false c f later = later f
+
+  module _ (t : Table) (whole : t .pa % page ≡ 0) (byte : ByteOf t (r .pa)) where
+    begins : (pa span away : ℕ) → pa % page ≡ 0 → away < span → r .pa ≡ pa + away → (pa ≤ t .pa) × (t .pa < pa + span)
+    begins pa span away a b e = (omega (arith, a, whole, byte .1, e), omega (arith, b, byte .0, e))
+
+    off : (w : Window) → (w .present ≡ true → w .pa % page ≡ 0) → liesIn t w ≡ false → Inside w x → r .pa ≡ w .pa + (x - w .ipa) → ⊥
+    off w aligned f i e =
+        let b = begins (w .pa) (w .span) (x - w .ipa) (aligned (i .there)) (i .before) e in
+        let l : liesIn t w ≡ true = rw (i .there, le-leb _ _ (b .0), lt-ltb _ _ (b .1)) in false≢true (sym f ∙ l)
+
+by-blocks : (n : ℕ) → n % block ≡ 0 → n % page ≡ 0
+by-blocks n h = omega (arith, h)
+
+module _ (l : Layout) (base sup : List ℕ) (g : Guarded outputLimit base sup l) (x : ℕ) (r : Reach) (e : granted l base sup x ≡ At r) where
+  abbrev image : Window
+  image = imageWindow (l .«guest_image_pa»)
+
+  image-pages : image .present ≡ true → image .pa % page ≡ 0
+  image-pages p =
+      by-blocks (image .pa) (ap (λ (n : ℕ). n % block) (image-itself (l .«guest_image_pa»)) ∙ g .layout .image p)
+
+  no-byte : (t : Table) → Nameable outputLimit t → All (λ w. liesIn t w ≡ false) (windowsOf l) → ByteOf t (r .pa) → ⊥
+  no-byte t n a byte =
+      let away = off x r t (n .aligned) byte in
+      nowhere x r (regionsOf l base sup) e (
+        away image image-pages (a .0),
+        (
+          away (dataWindow l) (λ p. g .layout .data-pa) (a .1 .0),
+          (
+            away (superWindow l) (λ p. by-blocks _ (g .layout .sup-pa)) (a .1 .1 .0),
+            (away (deviceWindow l) (λ p. by-blocks _ (g .layout .device p)) (a .1 .1 .1 .0), tt),
+          ),
+        ),
+      )
+
+  no-bytes :
+      (ts : List Table) → All (Nameable outputLimit) ts → All (λ t. All (λ w. liesIn t w ≡ false) (windowsOf l)) ts →
+      All (λ t. ByteOf t (r .pa) → ⊥) ts
+  no-bytes [] n a = tt
+  no-bytes (t ∷ ts) n a = (no-byte t (n .0) (a .0), no-bytes ts (n .1) (a .1))
+
+pub out-of-reach : OutOfReach
+out-of-reach l base sup words e all apart x r walked =
+    let g = guarded-facts outputLimit base sup l e in
+    no-bytes l base sup g x r (sym (demand-2 l base sup words e all x .walks) ∙ walked) (tablesOf l) (g .layout .tables) apart
