@@ -1,1 +1,3 @@
+pub mod Agreement
+pub mod Alike
 pub mod Differences
