@@ -9,15 +9,20 @@ use Rattle.edge.specs.Edge.{edgeOf}
 use Rattle.edge.specs.Grant.{grantOf}
 use Rattle.encode.specs.Encoding.{left}
 use Rattle.exact.specs.Exact.{exactRows}
+use Rattle.exposed.specs.Exposed.{exposure, exposureValues}
 use Rattle.fields.specs.Named.{pick}
 use Rattle.filling.specs.Filling.{Filling, filled}
 use Rattle.layout.specs.Layout.{layoutOf}
 use Rattle.layout.specs.Size.{outputLimit}
 use Rattle.p2m.specs.declared.Span.{Span}
 use Rattle.p2m.specs.declared.Span.the-variants.{Base, Super}
+use Rattle.reach.specs.Reach.{reachValues}
 use Rattle.refusal.specs.Outcome.{outcomeWords}
 use Rattle.refusal.specs.Table.{Outcome, first}
-use Rattle.rows.specs.Rows.{refusals, arenaGuardRows}
+use Rattle.refusal.specs.Told.{after, toldWords}
+use Rattle.rows.specs.Rows.{row1, refusals, arenaGuardRows}
+use Rattle.walk.specs.Descent.{wordsOf}
+use Rattle.walk.specs.Walk.{walkOf}
 
 abbrev pub validateAnswer : List ℕ → List ℕ
 validateAnswer numbers = outcomeWords (first (refusals (layoutOf numbers)))
@@ -36,6 +41,14 @@ encodeOutcome numbers base sup arena = first (arenaGuardRows outputLimit arena b
 pub record EncodeAnswer (numbers base sup old answer new : List ℕ) : Type 0 where
   pub outcome : answer ≡ outcomeWords (encodeOutcome numbers base sup old)
   pub words : Over (left (encodeOutcome numbers base sup old) (layoutOf numbers) base sup) old new
+
+-- by the arena, the six table addresses and the address
+abbrev pub walkAnswer : List ℕ → List ℕ → ℕ → List ℕ
+walkAnswer arena tables x = toldWords reachValues (after (first (row1 arena)) (walkOf tables (λ left. wordsOf arena) x))
+
+abbrev pub exposedAnswer : List ℕ → List ℕ
+exposedAnswer numbers =
+    let l = layoutOf numbers in toldWords exposureValues (after (first (refusals l)) (exposure l))
 
 abbrev pub authorizedAnswer : ℕ → List ℕ → List (List ℕ) → List (List ℕ) → List ℕ
 authorizedAnswer dom leaves frames grants = outcomeWords (first (authorityRows frames (map grantOf grants) dom leaves))

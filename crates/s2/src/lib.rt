@@ -3,10 +3,12 @@
 use layout::Layout;
 use p2m::Span;
 use refusal::Verdict;
+ghost use Prim.Native.Nat.{_<_, _^_};
 ghost use mathlib.Core.List.{[], _∷_};
 ghost use mathlib.Core.Path.{_≡_};
+ghost use lib.ListN.{getD};
 ghost use Rattle.refusal.specs.Outcome.{outcomeOf, outcomeWords};
-ghost use Rattle.s2.specs.Answers.{validateAnswer, fillAnswer, EncodeAnswer, authorizedAnswer, spanNumbered, exactAnswer};
+ghost use Rattle.s2.specs.Answers.{validateAnswer, fillAnswer, EncodeAnswer, walkAnswer, exposedAnswer, authorizedAnswer, spanNumbered, exactAnswer};
 
 // Rows 4 to 12.
 #[no_mangle]
@@ -124,6 +126,78 @@ pub extern "C" fn s2_encode(
     )
 }
 
+// Row 1. What an address reaches over these words.
+#[no_mangle]
+pub extern "C" fn s2_walk(
+    arena: &[u64],
+    l1_pa: u64,
+    l2_code_pa: u64,
+    l2_data_pa: u64,
+    l3_data_pa: u64,
+    l2_sup_pa: u64,
+    l2_dev_pa: u64,
+    ipa: u64,
+    values: &mut [u64; 8],
+) -> u32
+    ensures { λ r. ⌜ (r ∷ now (values .exit)) ≡ walkAnswer (now (arena .entry)) («l1_pa» ∷ «l2_code_pa» ∷ «l2_data_pa» ∷ «l3_data_pa» ∷ «l2_sup_pa» ∷ «l2_dev_pa» ∷ []) ipa ⌝ }
+{
+    let tables = [
+        l1_pa,
+        l2_code_pa,
+        l2_data_pa,
+        l3_data_pa,
+        l2_sup_pa,
+        l2_dev_pa,
+    ];
+    told(walk::walk(arena, tables, ipa).words(), values)
+}
+
+// Rows 4 to 12. Which table lies in which output window.
+#[no_mangle]
+pub extern "C" fn s2_exposed(
+    l1_pa: u64,
+    l2_code_pa: u64,
+    l2_data_pa: u64,
+    l3_data_pa: u64,
+    l2_sup_pa: u64,
+    l2_dev_pa: u64,
+    has_image: u64,
+    guest_image_pa: u64,
+    data_ipa_base: u64,
+    data_pa_base: u64,
+    frame_size: u64,
+    sup_ipa_base: u64,
+    sup_pa_base: u64,
+    device_base: u64,
+    device_len: u64,
+    sup_wx_exempt: u64,
+    sup_frames: u64,
+    values: &mut [u64; 8],
+) -> u32
+    ensures { λ r. ⌜ (r ∷ now (values .exit)) ≡ exposedAnswer («l1_pa» ∷ «l2_code_pa» ∷ «l2_data_pa» ∷ «l3_data_pa» ∷ «l2_sup_pa» ∷ «l2_dev_pa» ∷ «has_image» ∷ «guest_image_pa» ∷ «data_ipa_base» ∷ «data_pa_base» ∷ «frame_size» ∷ «sup_ipa_base» ∷ «sup_pa_base» ∷ «device_base» ∷ «device_len» ∷ «sup_wx_exempt» ∷ «sup_frames» ∷ []) ⌝ }
+{
+    let numbers = [
+        l1_pa,
+        l2_code_pa,
+        l2_data_pa,
+        l3_data_pa,
+        l2_sup_pa,
+        l2_dev_pa,
+        has_image,
+        guest_image_pa,
+        data_ipa_base,
+        data_pa_base,
+        frame_size,
+        sup_ipa_base,
+        sup_pa_base,
+        device_base,
+        device_len,
+        sup_wx_exempt,
+        sup_frames,
+    ];
+    told(exposed::exposed_table(Layout::of(&numbers)).words(), values)
+}
+
 // Rows 2, 3, 23 and 24.
 #[no_mangle]
 pub extern "C" fn s2_authorized(
@@ -170,7 +244,14 @@ fn span_numbered(is_super: u32) -> Span
 fn answer(verdict: Verdict, values: &mut [u64; 8]) -> u32
     ensures { λ r. ⌜ (r ∷ now (values .exit)) ≡ outcomeWords (outcomeOf verdict) ⌝ }
 {
-    let w = verdict.words();
+    told(verdict.words(), values)
+}
+
+// Nine words, of which the first is a row's number or 0.
+fn told(w: [u64; 9], values: &mut [u64; 8]) -> u32
+    requires { ⌜ getD w 0 0 < 2 ^ 32 ⌝ }
+    ensures { λ r. ⌜ (r ∷ now (values .exit)) ≡ w ⌝ }
+{
     *values = [w[1], w[2], w[3], w[4], w[5], w[6], w[7], w[8]];
     w[0] as u32
 }
