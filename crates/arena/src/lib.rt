@@ -52,14 +52,14 @@ pub fn device_word(base: u64, m: u32) -> u64
 }
 
 // Bits 47:12 of the m-th page's address.
-fn page_address(base: u64, m: u32) -> u64
+pub fn page_address(base: u64, m: u32) -> u64
     ensures { λ r. ⌜ r ≡ pageAddress (base + m * page) ⌝ }
 {
     (base / Layout::PAGE_SIZE + m as u64) % 0x10_0000_0000 * Layout::PAGE_SIZE
 }
 
 // Bits 47:21 of the m-th block's address.
-fn block_address(base: u64, m: u32) -> u64
+pub fn block_address(base: u64, m: u32) -> u64
     ensures { λ r. ⌜ r ≡ blockAddress (base + m * block) ⌝ }
 {
     (base / Layout::BLOCK_SIZE + m as u64) % 0x800_0000 * Layout::BLOCK_SIZE

@@ -1,0 +1,63 @@
+-- `base_frame` meets its contract: what is found is compared with what the entry wants.
+use borrow.Author.Needs.{needs}
+use Rattle.verify_rows.specs.Verifying.{baseRow}
+use Rattle.verify_leaves.proofs.base_frame.Statement.{statement}
+use Rattle.verify_leaves.proofs.base_frame.Tie as tie
+
+mul-word-at : tie.Need-mul-word-at
+mul-word-at c = search needs
+
+add-word-at : tie.Need-add-word-at
+add-word-at c = search needs
+
+word-at-requires : tie.Need-word-at-requires
+word-at-requires c κs = search needs
+
+entry-at-requires : tie.Need-entry-at-requires
+entry-at-requires c κs = search needs
+
+cast-page-address : tie.Need-cast-page-address
+cast-page-address c = search needs
+
+page-address-requires : tie.Need-page-address-requires
+page-address-requires c κs = search needs
+
+wanted-leaf-requires : tie.Need-wanted-leaf-requires
+wanted-leaf-requires c κs = search needs
+
+decode-page-requires : tie.Need-decode-page-requires
+decode-page-requires c κs = search needs
+
+leaf-requires : tie.Need-leaf-requires
+leaf-requires c κs = search needs
+
+returns : tie.Need-returns
+unfolding baseRow
+returns c =
+    let found = c .before in
+    let want = found .before in
+    let pa = want .before in
+    let entry = pa .before in
+    rw (
+      ← entry .before .word-at .ensures,
+      ← entry .entry-at .ensures,
+      ← pa .page-address .ensures,
+      ← want .wanted-leaf .ensures,
+      ← found .decode-page .ensures,
+    )
+    (c .leaf .ensures)
+
+pub base-frame-spec : {M : Type 1} → statement M
+base-frame-spec =
+    tie.close
+    (tie.spec
+    mul-word-at
+    add-word-at
+    word-at-requires
+    entry-at-requires
+    cast-page-address
+    page-address-requires
+    wanted-leaf-requires
+    decode-page-requires
+    leaf-requires
+    returns)

@@ -1,0 +1,69 @@
+-- `verify_base` meets its contract: the first row is that of the frames from m on.
+use Prim.Native.Nat.{_-_}
+use mathlib.Core.Path.{_≡_, refl, sym, _∙_}
+use borrow.Author.Needs.{needs}
+use Rattle.layout.specs.Size.{entries}
+use Rattle.refusal.proofs.First.{next, stop}
+use Rattle.refusal.specs.Table.{first, each}
+use Rattle.verify_rows.specs.Verifying.{indices, baseRow}
+use Rattle.verify_rows.proofs.Range.{rest, rest-at, rest-end}
+use Rattle.verify_leaves.proofs.verify_base.Statement.{statement}
+use Rattle.verify_leaves.proofs.verify_base.Tie as tie
+
+abbrev Inv-loop : tie.InvT-loop
+Inv-loop arena base pa m₀ m = first (each (baseRow arena base pa) indices) ≡ first (each (baseRow arena base pa) (rest entries m))
+
+abbrev μ-loop : tie.MeasureT-loop
+μ-loop arena base pa m₀ m = entries - m
+
+loop-holds : tie.Need-loop-holds Inv-loop μ-loop
+loop-holds c = refl
+
+base-frame-requires : tie.Need-base-frame-requires Inv-loop μ-loop
+base-frame-requires c κs = search needs
+
+enum-told : tie.Need-enum-told Inv-loop μ-loop
+enum-told c = search needs
+
+enum-told-2 : tie.Need-enum-told-2 Inv-loop μ-loop
+enum-told-2 c = search needs
+
+returns : tie.Need-returns Inv-loop μ-loop
+returns c =
+    let v = c .before .before in
+    let h = v .before .before in
+    let here = rest-at _ entries (h .loop .m) (v .before .loop-test .taken) in
+    let refused = c .enum-told2 .given in
+    stop _ _ (v .base-frame .result) (refused .0 .0) here (refused .1) (v .base-frame .ensures) ∙ sym (h .loop .inv)
+
+add-m : tie.Need-add-m Inv-loop μ-loop
+add-m c = search needs
+
+loop-less : tie.Need-loop-less Inv-loop μ-loop
+loop-less c = search needs
+
+loop-again : tie.Need-loop-again Inv-loop μ-loop
+loop-again c =
+    let v = c .before .before in
+    let h = v .before .before in
+    let here = rest-at _ entries (h .loop .m) (v .before .loop-test .taken) in
+    h .loop .inv ∙ next _ _ (v .base-frame .result) here (c .enum-told .given .1) (v .base-frame .ensures)
+
+returns-2 : tie.Need-returns-2 Inv-loop μ-loop
+returns-2 c = let h = c .before in rest-end _ entries (h .loop .m) (c .loop-test .left) ∙ sym (h .loop .inv)
+
+pub verify-base-spec : {M : Type 1} → statement M
+verify-base-spec =
+    tie.close
+    (tie.spec
+    Inv-loop
+    μ-loop
+    loop-holds
+    base-frame-requires
+    enum-told
+    enum-told-2
+    returns
+    add-m
+    loop-less
+    loop-again
+    returns-2)

@@ -1,0 +1,100 @@
+// Verification of tables 4 to 6 (hv-s2's arm64.rs, `verify_encoding`): each leaf is the one that the maps and the device want.
+use decode::DecodedBlock;
+use decode::DecodedDevice;
+use layout::Layout;
+use refusal::Verdict;
+ghost use Prim.Native.Nat.{_<_};
+ghost use mathlib.Core.Path.{_≡_};
+ghost use Rattle.layout.specs.Size.{entries};
+ghost use Rattle.refusal.specs.Outcome.{outcomeOf};
+ghost use Rattle.refusal.specs.Table.{first, each};
+ghost use Rattle.verify_rows.specs.Verifying.{indices, baseRow, superRow, wantedBlock, deviceRow};
+
+// Table 4.
+pub fn verify_base(arena: &[u64], base: &[u8], pa: u64) -> Verdict
+    ensures { λ r. ⌜ outcomeOf r ≡ first (each (baseRow (now (arena .entry)) (now (base .entry)) pa) indices) ⌝ }
+{
+    for m in 0..Layout::ENTRIES {
+        let verdict = base_frame(arena, base, pa, m);
+        let Verdict::Accepted = verdict else {
+            return verdict;
+        };
+    }
+    Verdict::Accepted
+}
+
+fn base_frame(arena: &[u64], base: &[u8], pa: u64, m: usize) -> Verdict
+    requires { ⌜ m < entries ⌝ }
+    ensures { λ r. ⌜ outcomeOf r ≡ first (baseRow (now (arena .entry)) (now (base .entry)) pa m) ⌝ }
+{
+    let index = m as u64;
+    let d = verify_word::word_at(arena, 3 * Layout::ENTRIES + m);
+    let entry = lent::entry_at(base, m);
+    let want = verify_word::wanted_leaf(entry, arena::page_address(pa, m as u32), false);
+    verify_word::leaf(4, index, d, index, decode::decode_page(d), want)
+}
+
+// Table 5. Supers at or past sup_frames are looked for like the others: row 14 is not tested here.
+pub fn verify_super(arena: &[u64], sup: &[u8], ipa: u64, pa: u64, exempt: bool) -> Verdict
+    ensures { λ r. ⌜ outcomeOf r ≡ first (each (superRow (now (arena .entry)) (now (sup .entry)) ipa pa exempt) indices) ⌝ }
+{
+    for m in 0..Layout::ENTRIES {
+        let verdict = super_frame(arena, sup, ipa, pa, exempt, m);
+        let Verdict::Accepted = verdict else {
+            return verdict;
+        };
+    }
+    Verdict::Accepted
+}
+
+// A super stands at its own slot, not at its frame number.
+fn super_frame(arena: &[u64], sup: &[u8], ipa: u64, pa: u64, exempt: bool, m: usize) -> Verdict
+    requires { ⌜ m < entries ⌝ }
+    ensures { λ r. ⌜ outcomeOf r ≡ first (superRow (now (arena .entry)) (now (sup .entry)) ipa pa exempt m) ⌝ }
+{
+    let index = (ipa / Layout::BLOCK_SIZE + m as u64) % 512;
+    let d = verify_word::word_at(arena, 4 * Layout::ENTRIES + index as usize);
+    let entry = lent::entry_at(sup, m);
+    let want = verify_word::wanted_leaf(entry, arena::block_address(pa, m as u32), exempt);
+    verify_word::leaf(5, index, d, m as u64, decode::decode_block(d), want)
+}
+
+// Table 6.
+pub fn verify_device(arena: &[u64], base: u64, len: u64) -> Verdict
+    ensures { λ r. ⌜ outcomeOf r ≡ first (each (deviceRow (now (arena .entry)) base len) indices) ⌝ }
+{
+    for j in 0..Layout::ENTRIES {
+        let verdict = device_slot(arena, base, len, j);
+        let Verdict::Accepted = verdict else {
+            return verdict;
+        };
+    }
+    Verdict::Accepted
+}
+
+fn device_slot(arena: &[u64], base: u64, len: u64, j: usize) -> Verdict
+    requires { ⌜ j < entries ⌝ }
+    ensures { λ r. ⌜ outcomeOf r ≡ first (deviceRow (now (arena .entry)) base len j) ⌝ }
+{
+    let index = j as u64;
+    let d = verify_word::word_at(arena, 5 * Layout::ENTRIES + j);
+    verify_word::device_block(6, index, d, wanted_block(base, len, index))
+}
+
+// The block that a device window wants at the address that a slot covers, without the sum of base and length, which can leave 64 bits.
+fn wanted_block(base: u64, len: u64, j: u64) -> DecodedBlock
+    requires { ⌜ j < entries ⌝ }
+    ensures { λ r. ⌜ r ≡ wantedBlock base len j ⌝ }
+{
+    let a = base / Layout::L1_ENTRY_SIZE * Layout::L1_ENTRY_SIZE + j * Layout::BLOCK_SIZE;
+    if a < base {
+        return DecodedBlock::Nothing;
+    }
+    if len <= a - base {
+        return DecodedBlock::Nothing;
+    }
+    DecodedBlock::Device(DecodedDevice {
+        pa: arena::block_address(a, 0),
+        xn: true,
+    })
+}

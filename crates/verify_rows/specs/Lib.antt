@@ -1,0 +1,2 @@
+pub mod Verifying
+pub mod Word

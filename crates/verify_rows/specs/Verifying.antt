@@ -1,0 +1,137 @@
+-- Verification, by document 01: rows 1 to 12, then what is wrong in the words of the arena, in the order in which they are read.
+use Prim.Native.Nat.{ℕ, zero, suc, _+_, _-_, _*_, _/_}
+use mathlib.Core.Bool.{Bool, true, false, not, _&&_, _||_}
+use mathlib.Core.List.{List, [], _∷_}
+use lib.Dec.{eqb, leb, ltb}
+use lib.ListN.{getD}
+use Rattle.decode.specs.Decoded.{decodedPage, decodedBlock}
+use Rattle.decode.specs.declared.DecodedBlock.the-variants.{Device, Nothing}
+use Rattle.decode.specs.declared.DecodedBlock.{DecodedBlock}
+use Rattle.desc.specs.Descriptor.{pageAddress, blockAddress}
+use Rattle.fields.specs.Named.{pick}
+use Rattle.layout.specs.Size.{entries, page, block, l1Span}
+use Rattle.layout.specs.Window.{imageWindow, dataWindow, superWindow, deviceWindow, l2Slot, slot}
+use Rattle.layout.specs.declared.Layout.{Layout}
+use Rattle.layout.specs.declared.Window.{Window}
+use Rattle.refusal.specs.Table.{Row, given, each, table}
+use Rattle.rows.specs.Rows.{row1, mapRows, refusals}
+use Rattle.verify_rows.specs.Word.{row18, row19, spurious, wantedLeaf, leafRow, blockRow}
+
+-- word j of table t
+abbrev pub word : List ℕ → ℕ → ℕ → ℕ
+word arena t j = getD arena ((t - 1) * entries + j) 0
+
+-- n numbers from k on
+unfoldable pub range : ℕ → ℕ → List ℕ
+range k zero = []
+range k (suc n) = k ∷ range (suc k) n
+
+-- 0 to 511: the indices of a table, and the frames of a map
+abbrev pub indices : List ℕ
+indices = range 0 entries
+
+-- a window that has a word in table 1, and the address of the table that the word names
+pub record Live : Type 0 where
+  pub window : Window
+  pub pa : ℕ
+
+abbrev pub live : Window → ℕ → Live
+live w pa = record { window = w; pa = pa }
+
+-- data, super, image, device
+abbrev pub liveOf : Layout → List Live
+liveOf l =
+    live (dataWindow l) (l .«l2_data_pa»)
+    ∷ live (superWindow l) (l .«l2_sup_pa»)
+    ∷ live (imageWindow (l .«guest_image_pa»)) (l .«l2_code_pa»)
+    ∷ live (deviceWindow l) (l .«l2_dev_pa»)
+    ∷ []
+
+-- live l1 words: 18
+unfoldable pub liveRow : List ℕ → Live → List Row
+liveRow arena x =
+    let j = slot (x .window) in given (x .window .present) (row18 1 j (word arena 1 j) (x .pa))
+
+-- a word of table 1 belongs to a window
+abbrev pub windowAt : List Live → ℕ → Bool
+windowAt [] j = false
+windowAt (x ∷ xs) j = (x .window .present && eqb (slot (x .window)) j) || windowAt xs j
+
+-- the image's block stands in table 2, and the table of data's pages is named in table 3
+abbrev pub imageAt : Layout → ℕ → Bool
+imageAt l j = let image = imageWindow (l .«guest_image_pa») in image .present && eqb (l2Slot (image .ipa)) j
+
+abbrev pub dataAt : Layout → ℕ → Bool
+dataAt l j = eqb (l2Slot (l .«data_ipa_base»)) j
+
+-- the words of tables 1, 2 and 3 that are live
+abbrev pub liveAt : Layout → ℕ → ℕ → Bool
+liveAt l t = pick (eqb t 1) (windowAt (liveOf l)) (pick (eqb t 2) (imageAt l) (dataAt l))
+
+-- the other words of a table: 21 if not 0
+unfoldable pub otherRow : List ℕ → Layout → ℕ → ℕ → List Row
+otherRow arena l t j =
+    let d = word arena t j in given (not (eqb d 0) && not (liveAt l t j)) (spurious t j d ∷ [])
+
+abbrev pub otherRows : List ℕ → Layout → ℕ → List Row
+otherRows arena l t = each (otherRow arena l t) indices
+
+-- table 1: 18, then 21
+unfoldable pub l1Rows : List ℕ → Layout → List Row
+l1Rows arena l = table (each (liveRow arena) (liveOf l) ∷ otherRows arena l 1 ∷ [])
+
+-- table 2: 19, if there is an image, then 21
+unfoldable pub imageRows : List ℕ → Layout → List Row
+imageRows arena l =
+    let image = imageWindow (l .«guest_image_pa») in
+    table (given (image .present) (row19 (word arena 2 (l2Slot (image .ipa))) (image .pa)) ∷ otherRows arena l 2 ∷ [])
+
+-- table 3: 18, then 21
+unfoldable pub dataRows : List ℕ → Layout → List Row
+dataRows arena l =
+    let j = l2Slot (l .«data_ipa_base») in
+    table (row18 3 j (word arena 3 j) (l .«l3_data_pa») ∷ otherRows arena l 3 ∷ [])
+
+-- base frame m: page m of data's output, at index m of table 4
+unfoldable pub baseRow : List ℕ → List ℕ → ℕ → ℕ → List Row
+baseRow arena base pa m =
+    let d = word arena 4 m in
+    leafRow 4 m d m (decodedPage d) (wantedLeaf (getD base m 0) (pageAddress (pa + m * page)) false)
+
+-- super frame m: block m of super's output, at its own slot of table 5, also at or past sup_frames
+unfoldable pub superRow : List ℕ → List ℕ → ℕ → ℕ → Bool → ℕ → List Row
+superRow arena sup ipa pa exempt m =
+    let j = l2Slot (ipa + m * block) in
+    let d = word arena 5 j in
+    leafRow 5 j d m (decodedBlock d) (wantedLeaf (getD sup m 0) (blockAddress (pa + m * block)) exempt)
+
+-- device slot j covers this address
+abbrev pub covered : ℕ → ℕ → ℕ
+covered base j = base / l1Span * l1Span + j * block
+
+-- what a device window, by base and length, wants there: itself, execute never, if it contains the address
+abbrev pub wantedBlock : ℕ → ℕ → ℕ → DecodedBlock
+wantedBlock base len j =
+    let a = covered base j in
+    pick (leb base a && ltb a (base + len)) (Device (record { pa = blockAddress a; xn = true })) Nothing
+
+-- device slot j: index j of table 6
+unfoldable pub deviceRow : List ℕ → ℕ → ℕ → ℕ → List Row
+deviceRow arena base len j = blockRow 6 j (word arena 6 j) (wantedBlock base len j)
+
+-- what is wrong in the words: tables 1, 2 and 3, base frames, super frames, device slots
+unfoldable pub encodingRows : List ℕ → List ℕ → List ℕ → Layout → List Row
+encodingRows arena base sup l =
+    table
+    (l1Rows arena l
+    ∷ imageRows arena l
+    ∷ dataRows arena l
+    ∷ each (baseRow arena base (l .«data_pa_base»)) indices
+    ∷ each (superRow arena sup (l .«sup_ipa_base») (l .«sup_pa_base») (l .«sup_wx_exempt»)) indices
+    ∷ each (deviceRow arena (l .«device_base») (l .«device_len»)) indices
+    ∷ [])
+
+-- the whole: 1, 2 and 3, 4 to 12, then the words; 13 and 14 are not tested here
+unfoldable pub verifyRows : List ℕ → List ℕ → List ℕ → Layout → List Row
+verifyRows arena base sup l =
+    table (row1 arena ∷ mapRows base sup ∷ refusals l ∷ encodingRows arena base sup l ∷ [])

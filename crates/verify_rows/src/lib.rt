@@ -1,0 +1,1 @@
+// What verification refuses, row by row: definitions alone.

@@ -1,0 +1,37 @@
+-- `image_word` meets its contract: by the presence of the image.
+use borrow.Author.Needs.{needs}
+use borrow.Author.Tests.{not-true, not-false}
+use Rattle.refusal.specs.Table.{first}
+use Rattle.verify_tables.proofs.image_word.Statement.{statement}
+use Rattle.verify_tables.proofs.image_word.Tie as tie
+
+returns : tie.Need-returns
+unfolding first
+returns c = rw (not-true (c .before .before .args .present) (c .if1 .taken))
+
+l2-index-requires : tie.Need-l2-index-requires
+l2-index-requires c κs = search needs
+
+add-at : tie.Need-add-at
+add-at c = search needs
+
+word-at-requires : tie.Need-word-at-requires
+word-at-requires c κs = search needs
+
+image-block-requires : tie.Need-image-block-requires
+image-block-requires c κs = search needs
+
+returns-2 : tie.Need-returns-2
+returns-2 c =
+    let i = c .before .before in
+    rw (
+      not-false (i .before .before .before .args .present) (i .before .if1 .left),
+      ← i .l2-index .ensures,
+      ← c .before .word-at .ensures,
+    )
+    (c .image-block .ensures)
+
+pub image-word-spec : {M : Type 1} → statement M
+image-word-spec =
+    tie.close
+    (tie.spec returns l2-index-requires add-at word-at-requires image-block-requires returns-2)

@@ -1,0 +1,39 @@
+-- `live_word` meets its contract: by the presence of the window.
+use Prim.Native.Nat.{_+_}
+use mathlib.Core.Path.{_≡_}
+use native.Mathlib.Omega.{arith}
+use borrow.Author.Needs.{needs}
+use borrow.Author.Tests.{not-true, not-false}
+use Rattle.refusal.specs.Table.{first}
+use Rattle.verify_tables.proofs.live_word.Statement.{statement}
+use Rattle.verify_tables.proofs.live_word.Tie as tie
+
+returns : tie.Need-returns
+unfolding first
+returns c = rw (not-true (c .before .before .args .present) (c .if1 .taken))
+
+l1-index-requires : tie.Need-l1-index-requires
+l1-index-requires c κs = search needs
+
+word-at-requires : tie.Need-word-at-requires
+word-at-requires c κs = search needs
+
+table-entry-requires : tie.Need-table-entry-requires
+table-entry-requires c κs = search needs
+
+returns-2 : tie.Need-returns-2
+returns-2 c =
+    let i = c .before .before in
+    let j = i .l1-index .result in
+    let at : 0 + j ≡ j = omega arith in
+    rw (
+      not-false (i .before .before .before .args .present) (i .before .if1 .left),
+      ← i .l1-index .ensures,
+      at,
+      ← c .before .word-at .ensures,
+    )
+    (c .table-entry .ensures)
+
+pub live-word-spec : {M : Type 1} → statement M
+live-word-spec =
+    tie.close (tie.spec returns l1-index-requires word-at-requires table-entry-requires returns-2)

@@ -1,0 +1,102 @@
+-- `other_words` meets its contract: the first row is that of the words from j on.
+use Prim.Native.Nat.{_-_}
+use mathlib.Core.Logic.{⊎-elim}
+use mathlib.Core.Path.{_≡_, refl, sym, _∙_}
+use borrow.Author.Needs.{needs}
+use borrow.Author.Tests.{eq-eqb, ne-eqb, not-true, not-false}
+use denote.Ref.{now}
+use Rattle.layout.specs.Size.{entries}
+use Rattle.refusal.specs.Table.{first, each}
+use Rattle.verify_rows.proofs.Range.{rest, rest-at, rest-end}
+use Rattle.verify_rows.specs.Verifying.{otherRow, otherRows}
+use Rattle.verify_tables.proofs.other_words.Statement.{statement}
+use Rattle.verify_tables.proofs.other_words.Tie as tie
+
+abbrev Inv-loop : tie.InvT-loop
+Inv-loop arena l table from j₀ j = first (otherRows arena l table) ≡ first (each (otherRow arena l table) (rest entries j))
+
+abbrev μ-loop : tie.MeasureT-loop
+μ-loop arena l table from j₀ j = entries - j
+
+sub-from : tie.Need-sub-from Inv-loop μ-loop
+sub-from c = search needs
+
+mul-from : tie.Need-mul-from Inv-loop μ-loop
+mul-from c = search needs
+
+loop-holds : tie.Need-loop-holds Inv-loop μ-loop
+loop-holds c = refl
+
+add-word-at : tie.Need-add-word-at Inv-loop μ-loop
+add-word-at c = search needs
+
+word-at-requires : tie.Need-word-at-requires Inv-loop μ-loop
+word-at-requires c κs = search needs
+
+live-at-requires : tie.Need-live-at-requires Inv-loop μ-loop
+live-at-requires c κs = search needs
+
+returns : tie.Need-returns Inv-loop μ-loop
+unfolding otherRow first
+returns c =
+    let v = c .before in
+    let t = v .before in
+    let w = t .before in
+    let h = w .before .before in
+    let a = h .before .before .args in
+    let here = rest-at (otherRow (now (a .arena)) (a .l) (a .table)) entries (h .loop .j) (w .before .loop-test .taken) in
+    rw (
+      h .loop .inv,
+      here,
+      ← w .word-at .ensures,
+      ne-eqb _ _ (t .if1 .taken),
+      ← v .live-at .ensures,
+      not-true (v .live-at .result) (c .if2 .taken),
+    )
+
+add-j : tie.Need-add-j Inv-loop μ-loop
+add-j c = search needs
+
+loop-less : tie.Need-loop-less Inv-loop μ-loop
+loop-less c = search needs
+
+loop-again : tie.Need-loop-again Inv-loop μ-loop
+unfolding otherRow
+loop-again c =
+    let w = c .before in
+    let h = w .before .before in
+    let a = h .before .before .args in
+    let here = rest-at (otherRow (now (a .arena)) (a .l) (a .table)) entries (h .loop .j) (w .before .loop-test .taken) in
+    ⊎-elim
+    (λ t.
+    rw (
+      h .loop .inv,
+      here,
+      ← w .word-at .ensures,
+      ne-eqb _ _ (t .0 .taken),
+      ← t .1 .ensures,
+      not-false (t .1 .result) (t .2 .left),
+    ))
+    (λ t. rw (h .loop .inv, here, ← w .word-at .ensures, eq-eqb _ _ (t .left)))
+    (c .if1 .came)
+
+returns-2 : tie.Need-returns-2 Inv-loop μ-loop
+returns-2 c = let h = c .before in rest-end _ entries (h .loop .j) (c .loop-test .left) ∙ sym (h .loop .inv)
+
+pub other-words-spec : {M : Type 1} → statement M
+other-words-spec =
+    tie.close
+    (tie.spec
+    Inv-loop
+    μ-loop
+    sub-from
+    mul-from
+    loop-holds
+    add-word-at
+    word-at-requires
+    live-at-requires
+    returns
+    add-j
+    loop-less
+    loop-again
+    returns-2)

@@ -1,0 +1,163 @@
+// Verification of tables 1 to 3 (hv-s2's arm64.rs, `verify_encoding`): the words that name tables, the image's block, and no others.
+use layout::Layout;
+use layout::Window;
+use refusal::Refusal;
+use refusal::Verdict;
+ghost use Prim.Native.Nat.{_<_, _≤_};
+ghost use mathlib.Core.Bool.{_&&_};
+ghost use mathlib.Core.Path.{_≡_};
+ghost use lib.Dec.{eqb};
+ghost use Rattle.layout.specs.Window.{l1Slot, l2Slot, slot};
+ghost use Rattle.refusal.specs.Outcome.{outcomeOf};
+ghost use Rattle.refusal.specs.Table.{first, given, each};
+ghost use Rattle.verify_rows.specs.Verifying.{word, liveOf, liveRow, windowAt, imageAt, liveAt, otherRows, l1Rows, imageRows, dataRows};
+ghost use Rattle.verify_rows.specs.Word.{row18, row19};
+
+// Table 1.
+pub fn verify_l1(arena: &[u64], l: Layout) -> Verdict
+    ensures { λ r. ⌜ outcomeOf r ≡ first (l1Rows (now (arena .entry)) l) ⌝ }
+{
+    let live = live_words(arena, l);
+    let Verdict::Accepted = live else {
+        return live;
+    };
+    other_words(arena, l, 1)
+}
+
+// Row 18 of each window that is present: data, super, image, device.
+fn live_words(arena: &[u64], l: Layout) -> Verdict
+    ensures { λ r. ⌜ outcomeOf r ≡ first (each (liveRow (now (arena .entry))) (liveOf l)) ⌝ }
+{
+    let data = live_word(arena, true, l.data_ipa_base, l.l2_data_pa);
+    let Verdict::Accepted = data else {
+        return data;
+    };
+    let supers = live_word(arena, true, l.sup_ipa_base, l.l2_sup_pa);
+    let Verdict::Accepted = supers else {
+        return supers;
+    };
+    let image_pa = l.guest_image_pa;
+    let image = image_pa.window();
+    let code = live_word(arena, image.present, image.ipa, l.l2_code_pa);
+    let Verdict::Accepted = code else {
+        return code;
+    };
+    let device = l.device_window();
+    live_word(arena, device.present, device.ipa, l.l2_dev_pa)
+}
+
+fn live_word(arena: &[u64], present: bool, ipa: u64, pa: u64) -> Verdict
+    ensures { λ r. ⌜ outcomeOf r ≡ first (given present (row18 1 (l1Slot ipa) (word (now (arena .entry)) 1 (l1Slot ipa)) pa)) ⌝ }
+{
+    if !present {
+        return Verdict::Accepted;
+    }
+    let index = Layout::l1_index(ipa);
+    verify_word::table_entry(1, index, verify_word::word_at(arena, index as usize), pa)
+}
+
+// Table 2. With no image every word is wanted to be 0.
+pub fn verify_image(arena: &[u64], l: Layout) -> Verdict
+    ensures { λ r. ⌜ outcomeOf r ≡ first (imageRows (now (arena .entry)) l) ⌝ }
+{
+    let image_pa = l.guest_image_pa;
+    let image = image_pa.window();
+    let block = image_word(arena, image.present, image.ipa, image.pa);
+    let Verdict::Accepted = block else {
+        return block;
+    };
+    other_words(arena, l, 2)
+}
+
+// Row 19.
+fn image_word(arena: &[u64], present: bool, ipa: u64, pa: u64) -> Verdict
+    ensures { λ r. ⌜ outcomeOf r ≡ first (given present (row19 (word (now (arena .entry)) 2 (l2Slot ipa)) pa)) ⌝ }
+{
+    if !present {
+        return Verdict::Accepted;
+    }
+    let at = Layout::ENTRIES + Layout::l2_index(ipa) as usize;
+    verify_word::image_block(verify_word::word_at(arena, at), pa)
+}
+
+// Table 3.
+pub fn verify_data(arena: &[u64], l: Layout) -> Verdict
+    ensures { λ r. ⌜ outcomeOf r ≡ first (dataRows (now (arena .entry)) l) ⌝ }
+{
+    let index = Layout::l2_index(l.data_ipa_base);
+    let d = verify_word::word_at(arena, 2 * Layout::ENTRIES + index as usize);
+    let pages = verify_word::table_entry(3, index, d, l.l3_data_pa);
+    let Verdict::Accepted = pages else {
+        return pages;
+    };
+    other_words(arena, l, 3)
+}
+
+// Row 21 of one of tables 1 to 3. Most words are 0, and for those no slot is worked out.
+fn other_words(arena: &[u64], l: Layout, table: usize) -> Verdict
+    requires { ⌜ 0 < table ⌝ }
+    requires { ⌜ table ≤ 3 ⌝ }
+    ensures { λ r. ⌜ outcomeOf r ≡ first (otherRows (now (arena .entry)) l table) ⌝ }
+{
+    let from = (table - 1) * Layout::ENTRIES;
+    for j in 0..Layout::ENTRIES {
+        let desc = verify_word::word_at(arena, from + j);
+        if desc != 0 {
+            if !live_at(l, table, j as u64) {
+                return Verdict::Refused(Refusal::SpuriousDescriptor {
+                    table: table as u64,
+                    index: j as u64,
+                    desc,
+                });
+            }
+        }
+    }
+    Verdict::Accepted
+}
+
+// Whether a word of one of tables 1 to 3 is wanted.
+fn live_at(l: Layout, table: usize, j: u64) -> bool
+    ensures { λ r. ⌜ r ≡ liveAt l table j ⌝ }
+{
+    match table {
+        1 => window_at(l, j),
+        2 => image_at(l, j),
+        _ => Layout::l2_index(l.data_ipa_base) == j,
+    }
+}
+
+fn window_at(l: Layout, j: u64) -> bool
+    ensures { λ r. ⌜ r ≡ windowAt (liveOf l) j ⌝ }
+{
+    if Layout::l1_index(l.data_ipa_base) == j {
+        return true;
+    }
+    if Layout::l1_index(l.sup_ipa_base) == j {
+        return true;
+    }
+    let image_pa = l.guest_image_pa;
+    if present_at(image_pa.window(), j) {
+        return true;
+    }
+    present_at(l.device_window(), j)
+}
+
+fn present_at(w: Window, j: u64) -> bool
+    ensures { λ r. ⌜ r ≡ (w .present && eqb (slot w) j) ⌝ }
+{
+    if !w.present {
+        return false;
+    }
+    w.l1_index() == j
+}
+
+fn image_at(l: Layout, j: u64) -> bool
+    ensures { λ r. ⌜ r ≡ imageAt l j ⌝ }
+{
+    let image_pa = l.guest_image_pa;
+    let image = image_pa.window();
+    if !image.present {
+        return false;
+    }
+    Layout::l2_index(image.ipa) == j
+}
