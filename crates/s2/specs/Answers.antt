@@ -21,6 +21,7 @@ use Rattle.refusal.specs.Outcome.{outcomeWords}
 use Rattle.refusal.specs.Table.{Outcome, first}
 use Rattle.refusal.specs.Told.{after, toldWords}
 use Rattle.rows.specs.Rows.{row1, refusals, arenaGuardRows}
+use Rattle.verify_rows.specs.Verifying.{verifyRows}
 use Rattle.walk.specs.Descent.{wordsOf}
 use Rattle.walk.specs.Walk.{walkOf}
 
@@ -45,6 +46,9 @@ pub record EncodeAnswer (numbers base sup old answer new : List ℕ) : Type 0 wh
 -- by the arena, the six table addresses and the address
 abbrev pub walkAnswer : List ℕ → List ℕ → ℕ → List ℕ
 walkAnswer arena tables x = toldWords reachValues (after (first (row1 arena)) (walkOf tables (λ left. wordsOf arena) x))
+
+abbrev pub verifyAnswer : List ℕ → List ℕ → List ℕ → List ℕ → List ℕ
+verifyAnswer numbers arena base sup = outcomeWords (first (verifyRows arena base sup (layoutOf numbers)))
 
 abbrev pub exposedAnswer : List ℕ → List ℕ
 exposedAnswer numbers =

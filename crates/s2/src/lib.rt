@@ -8,7 +8,7 @@ ghost use mathlib.Core.List.{[], _∷_};
 ghost use mathlib.Core.Path.{_≡_};
 ghost use lib.ListN.{getD};
 ghost use Rattle.refusal.specs.Outcome.{outcomeOf, outcomeWords};
-ghost use Rattle.s2.specs.Answers.{validateAnswer, fillAnswer, EncodeAnswer, walkAnswer, exposedAnswer, authorizedAnswer, spanNumbered, exactAnswer};
+ghost use Rattle.s2.specs.Answers.{validateAnswer, fillAnswer, EncodeAnswer, walkAnswer, verifyAnswer, exposedAnswer, authorizedAnswer, spanNumbered, exactAnswer};
 
 // Rows 4 to 12.
 #[no_mangle]
@@ -150,6 +150,58 @@ pub extern "C" fn s2_walk(
         l2_dev_pa,
     ];
     told(walk::walk(arena, tables, ipa).words(), values)
+}
+
+// Rows 1 to 12 and 18 to 22.
+#[no_mangle]
+pub extern "C" fn s2_verify(
+    arena: &[u64],
+    base: &[u8],
+    sup: &[u8],
+    l1_pa: u64,
+    l2_code_pa: u64,
+    l2_data_pa: u64,
+    l3_data_pa: u64,
+    l2_sup_pa: u64,
+    l2_dev_pa: u64,
+    has_image: u64,
+    guest_image_pa: u64,
+    data_ipa_base: u64,
+    data_pa_base: u64,
+    frame_size: u64,
+    sup_ipa_base: u64,
+    sup_pa_base: u64,
+    device_base: u64,
+    device_len: u64,
+    sup_wx_exempt: u64,
+    sup_frames: u64,
+    values: &mut [u64; 8],
+) -> u32
+    ensures { λ r. ⌜ (r ∷ now (values .exit)) ≡ verifyAnswer («l1_pa» ∷ «l2_code_pa» ∷ «l2_data_pa» ∷ «l3_data_pa» ∷ «l2_sup_pa» ∷ «l2_dev_pa» ∷ «has_image» ∷ «guest_image_pa» ∷ «data_ipa_base» ∷ «data_pa_base» ∷ «frame_size» ∷ «sup_ipa_base» ∷ «sup_pa_base» ∷ «device_base» ∷ «device_len» ∷ «sup_wx_exempt» ∷ «sup_frames» ∷ []) (now (arena .entry)) (now (base .entry)) (now (sup .entry)) ⌝ }
+{
+    let numbers = [
+        l1_pa,
+        l2_code_pa,
+        l2_data_pa,
+        l3_data_pa,
+        l2_sup_pa,
+        l2_dev_pa,
+        has_image,
+        guest_image_pa,
+        data_ipa_base,
+        data_pa_base,
+        frame_size,
+        sup_ipa_base,
+        sup_pa_base,
+        device_base,
+        device_len,
+        sup_wx_exempt,
+        sup_frames,
+    ];
+    answer(
+        verify::verify_encoding(arena, base, sup, Layout::of(&numbers)),
+        values,
+    )
 }
 
 // Rows 4 to 12. Which table lies in which output window.
