@@ -15,7 +15,7 @@ ghost use Rattle.reach.specs.Reach.{toldOf};
 ghost use Rattle.refusal.specs.Table.{first};
 ghost use Rattle.refusal.specs.Told.{after};
 ghost use Rattle.rows.specs.Rows.{row1};
-ghost use Rattle.walk.specs.Descent.{index, wordsOf, fetch, descend, endsAt};
+ghost use Rattle.walk.specs.Descent.{index, wordsOf, fetch, descend, endsAt, packed, unpacked};
 ghost use Rattle.walk.specs.Walk.{joined, reading, walkOf};
 
 // Where a descent ends: at a leaf word, or at a level where no word leads on.
@@ -43,17 +43,20 @@ fn walk_arena(arena: &[u64], tables: &[u64], ipa: u64) -> Reached
     if Layout::ADDRESSABLE <= ipa {
         return Reached::Nothing;
     }
-    reach_of(descend_from(arena, tables, 2, tables[0], ipa), ipa)
+    let l1 = tables[0];
+    let end = descend_from(&arena, &tables, 2, l1, ipa);
+    reach_of(stop_of(end), ipa)
 }
 
-// From the table named, with `left` levels below its own.
-fn descend_from(arena: &[u64], tables: &[u64], left: u32, named: u64, ipa: u64) -> Stop
-    requires { ⌜ length (now arena) ≡ arenaLength ⌝ }
-    requires { ⌜ length (now tables) ≡ tableCount ⌝ }
+// From the table named, with `left` levels below its own. The stop is one number, and slices are lent by a reference to them, so that
+// the compiler makes a loop of the recursion.
+fn descend_from(arena: &&[u64], tables: &&[u64], left: u32, named: u64, ipa: u64) -> u64
+    requires { ⌜ length (now (now arena)) ≡ arenaLength ⌝ }
+    requires { ⌜ length (now (now tables)) ≡ tableCount ⌝ }
     requires { ⌜ left ≤ 2 ⌝ }
-    ensures { λ r. ⌜ r ≡ descend (now (tables .entry)) (λ n. wordsOf (now (arena .entry))) left named ipa ⌝ }
+    ensures { λ r. ⌜ r ≡ packed (descend (now (now (tables .entry))) (λ n. wordsOf (now (now (arena .entry)))) left named ipa) ⌝ }
 {
-    let word = word_at(arena, tables, left, named, ipa);
+    let word = word_at(*arena, *tables, left, named, ipa);
     if left == 0 {
         return end_at(left, word);
     }
@@ -64,24 +67,42 @@ fn descend_from(arena: &[u64], tables: &[u64], left: u32, named: u64, ipa: u64) 
 }
 
 // A page at level 3, a block at level 2; level 1 knows none.
-fn end_at(left: u32, word: u64) -> Stop
+fn end_at(left: u32, word: u64) -> u64
     requires { ⌜ left ≤ 2 ⌝ }
-    ensures { λ r. ⌜ r ≡ endsAt left word ⌝ }
+    ensures { λ r. ⌜ r ≡ packed (endsAt left word) ⌝ }
 {
     match left {
         0 => {
             if word % 4 == desc::PAGE {
-                return Stop::Leaf { level: 3, word };
+                return word;
             }
-            Stop::Stopped { level: 3 }
+            12
         }
         1 => {
             if word % 4 == desc::BLOCK {
-                return Stop::Leaf { level: 2, word };
+                return word;
             }
-            Stop::Stopped { level: 2 }
+            8
         }
-        _ => Stop::Stopped { level: 1 },
+        _ => 4,
+    }
+}
+
+fn stop_of(end: u64) -> Stop
+    ensures { λ r. ⌜ r ≡ unpacked end ⌝ }
+{
+    match end % 4 {
+        3 => Stop::Leaf {
+            level: 3,
+            word: end,
+        },
+        1 => Stop::Leaf {
+            level: 2,
+            word: end,
+        },
+        _ => Stop::Stopped {
+            level: (end / 4 % 4) as u32,
+        },
     }
 }
 

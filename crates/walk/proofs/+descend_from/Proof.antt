@@ -1,10 +1,10 @@
 -- `descend_from` meets its contract, with `left` falling: by the word that it reads.
-use Prim.Native.Nat.{ℕ, _≤_, _<_}
-use mathlib.Core.Path.{_∙_, sym}
+use Prim.Native.Nat.{ℕ, _<_}
+use mathlib.Core.Path.{_∙_, sym, ap}
 use native.Mathlib.Omega.{arith}
 use borrow.Author.Needs.{needs}
 use denote.Ref.{now}
-use Rattle.walk.specs.Descent.{wordsOf}
+use Rattle.walk.specs.Descent.{wordsOf, packed}
 use Rattle.walk.proofs.Down.{at-last, at-end, at-table}
 use borrow.Fn.Kinds.{In}
 use borrow.Fn.PlainCycle.{Measures, is, falls, and}
@@ -17,19 +17,19 @@ use Rattle.walk.proofs.word_at.Reads as word-at-reads
 use Rattle.walk.proofs.+descend_from.{statement}
 use Rattle.walk.proofs.+descend_from.Tie.{close}
 
-abbrev μ-descend-from : Measures 2 descend-from-kinds.ps ℕ
+abbrev μ-descend-from : Measures 4 descend-from-kinds.ps ℕ
 μ-descend-from κs a = a .1 .1 .0
 
-abbrev descend-from-at : ℕ → In 2 descend-from-kinds.ps
+abbrev descend-from-at : ℕ → In 4 descend-from-kinds.ps
 descend-from-at t =
-    and 2 descend-from-kinds.ps (is 2 descend-from-kinds.ps μ-descend-from t) descend-from.Pre
+    and 4 descend-from-kinds.ps (is 4 descend-from-kinds.ps μ-descend-from t) descend-from.Pre
 
-abbrev descend-from-below : ℕ → In 2 descend-from-kinds.ps
+abbrev descend-from-below : ℕ → In 4 descend-from-kinds.ps
 descend-from-below t =
     and
-    2
+    4
     descend-from-kinds.ps
-    (falls 2 descend-from-kinds.ps _<_ μ-descend-from t)
+    (falls 4 descend-from-kinds.ps _<_ μ-descend-from t)
     descend-from.Pre
 
 descend-from-word-at-requires : (t : ℕ) → descend-from-lts.Need-word-at-requires (
@@ -42,7 +42,7 @@ descend-from-word-at-requires : (t : ℕ) → descend-from-lts.Need-word-at-requ
   descend-from-below t,
   descend-from.Post,
 ) (descend-from-at t) descend-from.Post
-descend-from-word-at-requires t c κs = search needs
+descend-from-word-at-requires t c κs = c .before .before .pre .1
 
 descend-from-end-at-requires : (t : ℕ) → descend-from-lts.Need-end-at-requires (
   word-at-reads.Asked,
@@ -70,8 +70,7 @@ descend-from-returns t c =
     let w = c .before .before in
     let a = w .before .before .before .args in
     c .end-at .ensures
-    ∙ at-last (now (a .tables)) (λ n. wordsOf (now (a .arena))) (a .named) (a .ipa) (a .left) (w .word-at .result) (c .before .if1 .taken)
-    (w .word-at .ensures)
+    ∙ ap packed (at-last (now (now (a .tables))) (λ n. wordsOf (now (now (a .arena)))) (a .named) (a .ipa) (a .left) (w .word-at .result) (c .before .if1 .taken) (w .word-at .ensures))
 
 descend-from-decode-table-requires : (t : ℕ) → descend-from-lts.Need-decode-table-requires (
   word-at-reads.Asked,
@@ -136,8 +135,9 @@ descend-from-returns-2 t c =
     let w = d .before .before in
     let a = w .before .before .before .args in
     c .end-at2 .ensures
-    ∙ at-end (now (a .tables)) (λ n. wordsOf (now (a .arena))) (a .named) (a .ipa) (a .left) (w .word-at .result)
-    (omega (arith, d .before .if1 .left)) (w .word-at .ensures) (sym (d .decode-table .ensures) ∙ c .before .enum-told .given .1)
+    ∙ ap packed
+    (at-end (now (now (a .tables))) (λ n. wordsOf (now (now (a .arena)))) (a .named) (a .ipa) (a .left) (w .word-at .result) (omega (arith, d .before .if1 .left))
+    (w .word-at .ensures) (sym (d .decode-table .ensures) ∙ c .before .enum-told .given .1))
 
 descend-from-sub-descend-from : (t : ℕ) → descend-from-lts.Need-sub-descend-from (
   word-at-reads.Asked,
@@ -181,8 +181,9 @@ descend-from-returns-3 t c =
     let w = d .before .before in
     let a = w .before .before .before .args in
     c .descend-from .ensures
-    ∙ at-table (now (a .tables)) (λ n. wordsOf (now (a .arena))) (a .named) (a .ipa) (a .left) (w .word-at .result)
-    (omega (arith, d .before .if1 .left)) (w .word-at .ensures) _ (sym (d .decode-table .ensures) ∙ k .next .given .1)
+    ∙ ap packed
+    (at-table (now (now (a .tables))) (λ n. wordsOf (now (now (a .arena)))) (a .named) (a .ipa) (a .left) (w .word-at .result) (omega (arith, d .before .if1 .left))
+    (w .word-at .ensures) _ (sym (d .decode-table .ensures) ∙ k .next .given .1))
 
 pub +descend-from-spec : {M : Type 1} → statement M
 +descend-from-spec = close μ-descend-from λ t. descend-from-lts.spec (

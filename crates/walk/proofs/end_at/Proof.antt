@@ -1,9 +1,9 @@
 -- `end_at` meets its contract: by the level, and the word's type.
 use Prim.Native.Nat.{ℕ}
-use mathlib.Core.Path.{_≡_, _∙_, sym, ap}
+use mathlib.Core.Path.{_≡_, sym, ap}
 use native.Mathlib.Omega.{arith}
 use Rattle.decode.proofs.Fields.{has-type, not-type}
-use Rattle.walk.specs.Descent.{endsAt}
+use Rattle.walk.specs.Descent.{endsAt, packed}
 use Rattle.walk.proofs.end_at.Statement.{statement}
 use Rattle.walk.proofs.end_at.Tie as tie
 
@@ -23,7 +23,7 @@ returns-5 : tie.Need-returns-5
 returns-5 c =
     let r = c .match .rest in
     let two : c .before .args .left ≡ 2 = omega (arith, r .0 .1, r .1) in
-    sym (ap (λ (left : ℕ). endsAt left (c .before .args .word)) two)
+    sym (ap (λ (left : ℕ). packed (endsAt left (c .before .args .word))) two)
 
 pub end-at-spec : {M : Type 1} → statement M
 end-at-spec = tie.close (tie.spec returns returns-2 returns-3 returns-4 returns-5)
