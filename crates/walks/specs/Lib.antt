@@ -1,3 +1,4 @@
+pub mod BeyondVerification
 pub mod Demand2
 pub mod OutOfReach
 pub mod Tabled
