@@ -7,13 +7,12 @@ use reach::Reach;
 use reach::Reached;
 use reach::Walked;
 use refusal::Verdict;
-ghost use Prim.Native.Nat.{_+_, _-_, _/_, _≤_, _<_, _^_};
+ghost use Prim.Native.Nat.{_+_, _-_, _/_, _≤_, _<_};
 ghost use mathlib.Core.Bool.{true};
 ghost use mathlib.Core.Path.{_≡_};
 ghost use lib.ListN.{getD};
 ghost use Rattle.accepted.specs.Guarded.{Guarded};
 ghost use Rattle.layout.specs.Size.{outputLimit};
-ghost use Rattle.layout.specs.Window.{superWindow};
 ghost use Rattle.reach.specs.Reach.{toldOf};
 ghost use Rattle.refusal.specs.Table.{first};
 ghost use Rattle.refusal.specs.Told.{after};
@@ -35,22 +34,22 @@ fn reach_in(base: &[u8], sup: &[u8], l: Layout, ipa: u64) -> Reached
     requires { ⌜ Guarded outputLimit (now base) (now sup) l ⌝ }
     ensures { λ r. ⌜ r ≡ granted l (now (base .entry)) (now (sup .entry)) ipa ⌝ }
 {
-    let image_pa = l.guest_image_pa;
-    let image = image_pa.window();
+    let ws = windows::windows_of(l);
+    let image = ws[0];
     if inside(image, ipa) {
         return grant(image, ipa, false, 3);
     }
-    let data = l.data_window();
+    let data = ws[1];
     if inside(data, ipa) {
         let entry = entry_of(base, data, ipa, Layout::PAGE_SIZE);
         return grant(data, ipa, false, entry);
     }
-    let supers = super_window(l);
+    let supers = ws[2];
     if inside(supers, ipa) {
         let entry = entry_of(sup, supers, ipa, Layout::BLOCK_SIZE);
         return grant(supers, ipa, l.sup_wx_exempt, entry);
     }
-    let device = l.device_window();
+    let device = ws[3];
     if inside(device, ipa) {
         return grant(device, ipa, false, 2);
     }
@@ -85,19 +84,6 @@ fn grant(w: Window, ipa: u64, exempt: bool, entry: u8) -> Reached
     ensures { λ r. ⌜ r ≡ byEntry (w .pa + (ipa - w .ipa)) exempt entry ⌝ }
 {
     by_entry(w.pa + (ipa - w.ipa), exempt, entry)
-}
-
-fn super_window(l: Layout) -> Window
-    requires { ⌜ l .«sup_frames» < 2 ^ 43 ⌝ }
-    ensures { λ r. ⌜ r ≡ superWindow l ⌝ }
-{
-    Window {
-        code: 3,
-        present: true,
-        ipa: l.sup_ipa_base,
-        pa: l.sup_pa_base,
-        span: l.sup_frames * Layout::BLOCK_SIZE,
-    }
 }
 
 fn by_entry(pa: u64, exempt: bool, entry: u8) -> Reached

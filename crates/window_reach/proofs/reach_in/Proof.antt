@@ -1,11 +1,16 @@
 -- `reach_in` meets its contract: an address that a window does not contain is left to the windows after it.
-use Prim.Native.Nat.{_+_, _-_}
+use Prim.Native.Nat.{ℕ, _+_, _-_}
+use mathlib.Core.Bool.{false}
 use mathlib.Core.List.{List, [], _∷_}
 use mathlib.Core.Path.{_≡_, _∙_, sym, ap}
 use native.Mathlib.Omega.{arith}
+use lib.ListN.{getD}
 use borrow.Author.Needs.{needs}
 use denote.Ref.{now}
 use Rattle.layout.specs.Size.{outputLimit}
+use Rattle.layout.specs.Window.{window, windowsOf}
+use Rattle.layout.specs.declared.Window.{Window}
+use Rattle.windows.proofs.Whole.{whole}
 use Rattle.window_reach.specs.Granted.{Region, imageRegion, dataRegion, superRegion, deviceRegion, byEntry, grantedBy, granted}
 use Rattle.window_reach.proofs.Grants.{here, past, output}
 use Rattle.window_reach.proofs.reach_in.Statement.{statement}
@@ -26,47 +31,64 @@ from-data s = dataRegion (s .args .l) (now (s .args .base)) ∷ from-super s
 abbrev Left : tie.Start → List Region → Type 0
 Left s rs = granted (s .args .l) (now (s .args .base)) (now (s .args .sup)) (s .args .ipa) ≡ grantedBy rs (s .args .ipa)
 
--- where each window is tested
+-- where each window is tested, from the array that all are read from
 
-abbrev at-1 : tie.After-inside → tie.Start
-at-1 c = c .before .before .before .before
+abbrev ws-1 : tie.After-inside → tie.After-windows-of
+ws-1 c = c .before .before
 
-abbrev at-2 : tie.After-inside2 → tie.Start
-at-2 c = at-1 (c .before .before .before)
+abbrev ws-2 : tie.After-inside2 → tie.After-windows-of
+ws-2 c = ws-1 (c .before .before .before)
 
-abbrev at-3 : tie.After-inside3 → tie.Start
-at-3 c = at-2 (c .before .before .before)
+abbrev ws-3 : tie.After-inside3 → tie.After-windows-of
+ws-3 c = ws-2 (c .before .before .before)
 
-abbrev at-4 : tie.After-inside4 → tie.Start
-at-4 c = at-3 (c .before .before .before)
+abbrev ws-4 : tie.After-inside4 → tie.After-windows-of
+ws-4 c = ws-3 (c .before .before .before)
 
-past-image : (c : tie.Else1) → Left (at-1 (c .before)) (from-data (at-1 (c .before)))
+abbrev start : tie.After-windows-of → tie.Start
+start c = c .before .before .before
+
+abbrev none : Window
+none = window 0 false 0 0 0
+
+abbrev win : tie.After-windows-of → ℕ → Window
+win c k = getD (c .windows-of .result) k none
+
+is : (c : tie.After-windows-of) (k : ℕ) → win c k ≡ getD (windowsOf (start c .args .l)) k none
+is c k =
+    let s = start c in
+    ap (λ ws. getD ws k none) (c .windows-of .ensures ∙ whole (s .args .l) (s .pre .layout .frames))
+
+past-image : (c : tie.Else1) → Left (start (ws-1 (c .before))) (from-data (start (ws-1 (c .before))))
 past-image c =
     let i = c .before in
-    let s = at-1 i in
-    let w = i .before .window in
-    past (imageRegion (s .args .l)) (from-data s) (s .args .ipa) (w .result) (w .ensures) (i .inside .result) (i .inside .ensures) (c .if1 .left)
+    let s = start (ws-1 i) in
+    let v = ws-1 i in
+    past (imageRegion (s .args .l)) (from-data s) (s .args .ipa) (win v 0) (is v 0) (i .inside .result) (i .inside .ensures) (c .if1 .left)
 
-past-data : (c : tie.Else2) → Left (at-2 (c .before)) (from-super (at-2 (c .before)))
+past-data : (c : tie.Else2) → Left (start (ws-2 (c .before))) (from-super (start (ws-2 (c .before))))
 past-data c =
     let i = c .before in
-    let s = at-2 i in
-    let w = i .before .data-window in
+    let s = start (ws-2 i) in
+    let v = ws-2 i in
     past-image (i .before .before)
-    ∙ past (dataRegion (s .args .l) (now (s .args .base))) (from-super s) (s .args .ipa) (w .result) (w .ensures) (i .inside2 .result)
+    ∙ past (dataRegion (s .args .l) (now (s .args .base))) (from-super s) (s .args .ipa) (win v 1) (is v 1) (i .inside2 .result)
     (i .inside2 .ensures) (c .if2 .left)
 
-past-super : (c : tie.Else3) → Left (at-3 (c .before)) (from-device (at-3 (c .before)))
+past-super : (c : tie.Else3) → Left (start (ws-3 (c .before))) (from-device (start (ws-3 (c .before))))
 past-super c =
     let i = c .before in
-    let s = at-3 i in
-    let w = i .before .super-window in
+    let s = start (ws-3 i) in
+    let v = ws-3 i in
     past-data (i .before .before)
-    ∙ past (superRegion (s .args .l) (now (s .args .sup))) (from-device s) (s .args .ipa) (w .result) (w .ensures) (i .inside3 .result)
+    ∙ past (superRegion (s .args .l) (now (s .args .sup))) (from-device s) (s .args .ipa) (win v 2) (is v 2) (i .inside3 .result)
     (i .inside3 .ensures) (c .if3 .left)
 
-window-requires : tie.Need-window-requires
-window-requires c κs = search needs
+windows-of-requires : tie.Need-windows-of-requires
+windows-of-requires c κs = search needs
+
+array-copy-out-image : tie.Need-array-copy-out-image
+array-copy-out-image c = search needs
 
 inside-requires : tie.Need-inside-requires
 inside-requires c κs = search needs
@@ -74,24 +96,24 @@ inside-requires c κs = search needs
 grant-requires : tie.Need-grant-requires
 grant-requires c κs =
     let i = c .before in
-    let s = at-1 i in
-    let w = i .before .window in
+    let s = start (ws-1 i) in
+    let v = ws-1 i in
     let within = s .pre .layout .windows .0 in (
       sym (i .inside .ensures) ∙ c .if1 .taken,
-      output (imageRegion (s .args .l)) [] (s .args .ipa) (w .result) (w .ensures) (i .inside .result) (i .inside .ensures) outputLimit within (c .if1 .taken),
+      output (imageRegion (s .args .l)) [] (s .args .ipa) (win v 0) (is v 0) (i .inside .result) (i .inside .ensures) outputLimit within (c .if1 .taken),
     )
 
 returns : tie.Need-returns
 returns c =
     let t = c .before in
     let i = t .before in
-    let s = at-1 i in
-    let w = i .before .window in
+    let s = start (ws-1 i) in
+    let v = ws-1 i in
     c .grant .ensures
-    ∙ sym (here (imageRegion (s .args .l)) (from-data s) (s .args .ipa) (w .result) (w .ensures) (i .inside .result) (i .inside .ensures) (t .if1 .taken))
+    ∙ sym (here (imageRegion (s .args .l)) (from-data s) (s .args .ipa) (win v 0) (is v 0) (i .inside .result) (i .inside .ensures) (t .if1 .taken))
 
-data-window-requires : tie.Need-data-window-requires
-data-window-requires c κs = search needs
+array-copy-out-data : tie.Need-array-copy-out-data
+array-copy-out-data c = search needs
 
 inside-requires-2 : tie.Need-inside-requires-2
 inside-requires-2 c κs = search needs
@@ -103,12 +125,12 @@ grant-requires-2 : tie.Need-grant-requires-2
 grant-requires-2 c κs =
     let t = c .before in
     let i = t .before in
-    let s = at-2 i in
-    let w = i .before .data-window in
+    let s = start (ws-2 i) in
+    let v = ws-2 i in
     let r = dataRegion (s .args .l) (now (s .args .base)) in
     let within = s .pre .layout .windows .1 .0 in (
       sym (i .inside2 .ensures) ∙ t .if2 .taken,
-      output r [] (s .args .ipa) (w .result) (w .ensures) (i .inside2 .result) (i .inside2 .ensures) outputLimit within (t .if2 .taken),
+      output r [] (s .args .ipa) (win v 1) (is v 1) (i .inside2 .result) (i .inside2 .ensures) outputLimit within (t .if2 .taken),
     )
 
 returns-2 : tie.Need-returns-2
@@ -116,15 +138,15 @@ returns-2 c =
     let e = c .before in
     let t = e .before in
     let i = t .before in
-    let s = at-2 i in
-    let w = i .before .data-window in
+    let s = start (ws-2 i) in
+    let v = ws-2 i in
     let r = dataRegion (s .args .l) (now (s .args .base)) in
     c .grant2 .ensures
-    ∙ ap (byEntry (w .result .pa + (s .args .ipa - w .result .ipa)) (r .exempt)) (e .entry-of .ensures)
-    ∙ sym (past-image (i .before .before) ∙ here r (from-super s) (s .args .ipa) (w .result) (w .ensures) (i .inside2 .result) (i .inside2 .ensures) (t .if2 .taken))
+    ∙ ap (byEntry (win v 1 .pa + (s .args .ipa - win v 1 .ipa)) (r .exempt)) (e .entry-of .ensures)
+    ∙ sym (past-image (i .before .before) ∙ here r (from-super s) (s .args .ipa) (win v 1) (is v 1) (i .inside2 .result) (i .inside2 .ensures) (t .if2 .taken))
 
-super-window-requires : tie.Need-super-window-requires
-super-window-requires c κs = search needs
+array-copy-out-supers : tie.Need-array-copy-out-supers
+array-copy-out-supers c = search needs
 
 inside-requires-3 : tie.Need-inside-requires-3
 inside-requires-3 c κs = search needs
@@ -136,12 +158,12 @@ grant-requires-3 : tie.Need-grant-requires-3
 grant-requires-3 c κs =
     let t = c .before in
     let i = t .before in
-    let s = at-3 i in
-    let w = i .before .super-window in
+    let s = start (ws-3 i) in
+    let v = ws-3 i in
     let r = superRegion (s .args .l) (now (s .args .sup)) in
     let within = s .pre .layout .windows .1 .1 .0 in (
       sym (i .inside3 .ensures) ∙ t .if3 .taken,
-      output r [] (s .args .ipa) (w .result) (w .ensures) (i .inside3 .result) (i .inside3 .ensures) outputLimit within (t .if3 .taken),
+      output r [] (s .args .ipa) (win v 2) (is v 2) (i .inside3 .result) (i .inside3 .ensures) outputLimit within (t .if3 .taken),
     )
 
 returns-3 : tie.Need-returns-3
@@ -149,15 +171,15 @@ returns-3 c =
     let e = c .before in
     let t = e .before in
     let i = t .before in
-    let s = at-3 i in
-    let w = i .before .super-window in
+    let s = start (ws-3 i) in
+    let v = ws-3 i in
     let r = superRegion (s .args .l) (now (s .args .sup)) in
     c .grant3 .ensures
-    ∙ ap (byEntry (w .result .pa + (s .args .ipa - w .result .ipa)) (r .exempt)) (e .entry-of2 .ensures)
-    ∙ sym (past-data (i .before .before) ∙ here r (from-device s) (s .args .ipa) (w .result) (w .ensures) (i .inside3 .result) (i .inside3 .ensures) (t .if3 .taken))
+    ∙ ap (byEntry (win v 2 .pa + (s .args .ipa - win v 2 .ipa)) (r .exempt)) (e .entry-of2 .ensures)
+    ∙ sym (past-data (i .before .before) ∙ here r (from-device s) (s .args .ipa) (win v 2) (is v 2) (i .inside3 .result) (i .inside3 .ensures) (t .if3 .taken))
 
-device-window-requires : tie.Need-device-window-requires
-device-window-requires c κs = search needs
+array-copy-out-device : tie.Need-array-copy-out-device
+array-copy-out-device c = search needs
 
 inside-requires-4 : tie.Need-inside-requires-4
 inside-requires-4 c κs = search needs
@@ -165,49 +187,50 @@ inside-requires-4 c κs = search needs
 grant-requires-4 : tie.Need-grant-requires-4
 grant-requires-4 c κs =
     let i = c .before in
-    let s = at-4 i in
-    let w = i .before .device-window in
+    let s = start (ws-4 i) in
+    let v = ws-4 i in
     let within = s .pre .layout .windows .1 .1 .1 .0 in (
       sym (i .inside4 .ensures) ∙ c .if4 .taken,
-      output (deviceRegion (s .args .l)) [] (s .args .ipa) (w .result) (w .ensures) (i .inside4 .result) (i .inside4 .ensures) outputLimit within (c .if4 .taken),
+      output (deviceRegion (s .args .l)) [] (s .args .ipa) (win v 3) (is v 3) (i .inside4 .result) (i .inside4 .ensures) outputLimit within (c .if4 .taken),
     )
 
 returns-4 : tie.Need-returns-4
 returns-4 c =
     let t = c .before in
     let i = t .before in
-    let s = at-4 i in
-    let w = i .before .device-window in
+    let s = start (ws-4 i) in
+    let v = ws-4 i in
     c .grant4 .ensures
-    ∙ sym (past-super (i .before .before) ∙ here (deviceRegion (s .args .l)) [] (s .args .ipa) (w .result) (w .ensures) (i .inside4 .result) (i .inside4 .ensures) (t .if4 .taken))
+    ∙ sym (past-super (i .before .before) ∙ here (deviceRegion (s .args .l)) [] (s .args .ipa) (win v 3) (is v 3) (i .inside4 .result) (i .inside4 .ensures) (t .if4 .taken))
 
 returns-5 : tie.Need-returns-5
 unfolding grantedBy
 returns-5 c =
     let i = c .before in
-    let s = at-4 i in
-    let w = i .before .device-window in
-    sym (past-super (i .before .before) ∙ past (deviceRegion (s .args .l)) [] (s .args .ipa) (w .result) (w .ensures) (i .inside4 .result) (i .inside4 .ensures) (c .if4 .left))
+    let s = start (ws-4 i) in
+    let v = ws-4 i in
+    sym (past-super (i .before .before) ∙ past (deviceRegion (s .args .l)) [] (s .args .ipa) (win v 3) (is v 3) (i .inside4 .result) (i .inside4 .ensures) (c .if4 .left))
 
 pub reach-in-spec : {M : Type 1} → statement M
 reach-in-spec =
     tie.close
     (tie.spec
-    window-requires
+    windows-of-requires
+    array-copy-out-image
     inside-requires
     grant-requires
     returns
-    data-window-requires
+    array-copy-out-data
     inside-requires-2
     entry-of-requires
     grant-requires-2
     returns-2
-    super-window-requires
+    array-copy-out-supers
     inside-requires-3
     entry-of-requires-2
     grant-requires-3
     returns-3
-    device-window-requires
+    array-copy-out-device
     inside-requires-4
     grant-requires-4
     returns-4
