@@ -3,12 +3,16 @@ use decode::DecodedBlock;
 use decode::DecodedDevice;
 use layout::Layout;
 use refusal::Verdict;
-ghost use Prim.Native.Nat.{_<_};
+ghost use Prim.Native.Nat.{_+_, _<_};
+ghost use mathlib.Core.Bool.{_&&_};
 ghost use mathlib.Core.Path.{_≡_};
+ghost use lib.Dec.{leb, ltb};
+ghost use Rattle.arena.specs.Word.{deviceTo};
+ghost use Rattle.fields.specs.Named.{pick};
 ghost use Rattle.layout.specs.Size.{entries};
 ghost use Rattle.refusal.specs.Outcome.{outcomeOf};
 ghost use Rattle.refusal.specs.Table.{first, each};
-ghost use Rattle.verify_rows.specs.Verifying.{indices, baseRow, superRow, wantedBlock, deviceRow};
+ghost use Rattle.verify_rows.specs.Verifying.{indices, baseRow, superRow, covered, wantedBlock, deviceRow};
 
 // Table 4.
 pub fn verify_base(arena: &[u64], base: &[u8], pa: u64) -> Verdict
@@ -30,6 +34,10 @@ fn base_frame(arena: &[u64], base: &[u8], pa: u64, m: usize) -> Verdict
     let index = m as u64;
     let d = verify_word::word_at(arena, 3 * Layout::ENTRIES + m);
     let entry = lent::entry_at(base, m);
+    // Most words are the emitted one, and need no decoding.
+    if d == arena::page_word(pa, m as u32, entry) {
+        return Verdict::Accepted;
+    }
     let want = verify_word::wanted_leaf(entry, arena::page_address(pa, m as u32), false);
     verify_word::leaf(4, index, d, index, decode::decode_page(d), want)
 }
@@ -55,6 +63,9 @@ fn super_frame(arena: &[u64], sup: &[u8], ipa: u64, pa: u64, exempt: bool, m: us
     let index = (ipa / Layout::BLOCK_SIZE + m as u64) % 512;
     let d = verify_word::word_at(arena, 4 * Layout::ENTRIES + index as usize);
     let entry = lent::entry_at(sup, m);
+    if d == arena::block_word(pa, m as u32, exempt, entry) {
+        return Verdict::Accepted;
+    }
     let want = verify_word::wanted_leaf(entry, arena::block_address(pa, m as u32), exempt);
     verify_word::leaf(5, index, d, m as u64, decode::decode_block(d), want)
 }
@@ -78,23 +89,45 @@ fn device_slot(arena: &[u64], base: u64, len: u64, j: usize) -> Verdict
 {
     let index = j as u64;
     let d = verify_word::word_at(arena, 5 * Layout::ENTRIES + j);
+    if d == emitted_block(base, len, index) {
+        return Verdict::Accepted;
+    }
     verify_word::device_block(6, index, d, wanted_block(base, len, index))
 }
 
-// The block that a device window wants at the address that a slot covers, without the sum of base and length, which can leave 64 bits.
+// The word that a device window has at a slot.
+fn emitted_block(base: u64, len: u64, j: u64) -> u64
+    requires { ⌜ j < entries ⌝ }
+    ensures { λ r. ⌜ r ≡ pick (leb base (covered base j) && ltb (covered base j) (base + len)) (deviceTo (covered base j)) 0 ⌝ }
+{
+    let a = base / Layout::L1_ENTRY_SIZE * Layout::L1_ENTRY_SIZE + j * Layout::BLOCK_SIZE;
+    if is_within(base, len, a) {
+        return arena::device_word(a, 0);
+    }
+    0
+}
+
+// The block that a device window wants at the address that a slot covers.
 fn wanted_block(base: u64, len: u64, j: u64) -> DecodedBlock
     requires { ⌜ j < entries ⌝ }
     ensures { λ r. ⌜ r ≡ wantedBlock base len j ⌝ }
 {
     let a = base / Layout::L1_ENTRY_SIZE * Layout::L1_ENTRY_SIZE + j * Layout::BLOCK_SIZE;
+    if is_within(base, len, a) {
+        return DecodedBlock::Device(DecodedDevice {
+            pa: arena::block_address(a, 0),
+            xn: true,
+        });
+    }
+    DecodedBlock::Nothing
+}
+
+// Whether a window contains an address, without the sum of base and length, which can leave 64 bits.
+fn is_within(base: u64, len: u64, a: u64) -> bool
+    ensures { λ r. ⌜ r ≡ (leb base a && ltb a (base + len)) ⌝ }
+{
     if a < base {
-        return DecodedBlock::Nothing;
+        return false;
     }
-    if len <= a - base {
-        return DecodedBlock::Nothing;
-    }
-    DecodedBlock::Device(DecodedDevice {
-        pa: arena::block_address(a, 0),
-        xn: true,
-    })
+    a - base < len
 }

@@ -1,0 +1,53 @@
+-- The emitted word has no row: it is read as what is wanted.
+use Prim.Native.Nat.{ℕ, _+_, _-_, _≤_}
+use mathlib.Core.Bool.{Bool, true, false, _&&_}
+use mathlib.Core.Path.{_≡_, refl, sym, ap, _∙_}
+use native.Mathlib.Omega.{arith}
+use lib.Dec.{leb, ltb}
+use borrow.Author.Tests.{ltb-true, ltb-false, lt-ltb, le-ltb}
+use Rattle.arena.specs.Word.{pageTo, blockTo, deviceTo, leafFor}
+use Rattle.decode.proofs.Emitted.{emitted-decodes}
+use Rattle.decode.specs.Decoded.{decodedPage, decodedBlock, decodedDevice}
+use Rattle.decode.specs.declared.DecodedBlock.the-variants.{Device, Nothing}
+use Rattle.desc.specs.Descriptor.{pageAddress, blockAddress}
+use Rattle.fields.specs.Named.{pick}
+use Rattle.refusal.specs.Table.{accepted, first}
+use Rattle.verified.proofs.Read.{held-block, page-read, block-read, no-leaf-row, no-block-row}
+use Rattle.verify_rows.specs.Verifying.{covered, wantedBlock}
+use Rattle.verify_rows.specs.Word.{wantedLeaf, leafRow, blockRow}
+
+pub page-none :
+    (t j d m e x : ℕ) →
+    d ≡ leafFor e (pageTo x) → accepted ≡ first (leafRow t j d m (decodedPage d) (wantedLeaf e (pageAddress x) false))
+unfolding first
+page-none t j d m e x q = rw (no-leaf-row t j d m _ _ (ap decodedPage q ∙ page-read e x))
+
+pub block-none :
+    (t j d m e x : ℕ) (exempt : Bool) →
+    d ≡ leafFor e (blockTo x exempt) →
+    accepted ≡ first (leafRow t j d m (decodedBlock d) (wantedLeaf e (blockAddress x) exempt))
+unfolding first
+block-none t j d m e x exempt q = rw (no-leaf-row t j d m _ _ (ap decodedBlock q ∙ block-read e x exempt))
+
+device-read :
+    (inside : Bool) (x : ℕ) →
+    decodedDevice (pick inside (deviceTo x) 0) ≡ pick inside (Device (record { pa = blockAddress x; xn = true })) Nothing
+device-read true x = emitted-decodes .device (blockAddress x) (held-block x)
+device-read false x = refl
+
+pub device-none :
+    (t d base len j : ℕ) →
+    d ≡ pick (leb base (covered base j) && ltb (covered base j) (base + len)) (deviceTo (covered base j)) 0 →
+    accepted ≡ first (blockRow t j d (wantedBlock base len j))
+unfolding first
+device-none t d base len j q =
+    let x = covered base j in
+    rw (no-block-row t j d _ (ap decodedDevice q ∙ device-read (leb base x && ltb x (base + len)) x))
+
+-- what lies within a length of a base is less than that far from it
+pub distance : (a base len : ℕ) → base ≤ a → ltb (a - base) len ≡ ltb a (base + len)
+distance a base len h = go (ltb a (base + len)) refl
+  where
+    go : (t : Bool) → ltb a (base + len) ≡ t → ltb (a - base) len ≡ t
+    go true e = lt-ltb (a - base) len (omega (arith, ltb-true a (base + len) e))
+    go false e = le-ltb (a - base) len (omega (arith, ltb-false a (base + len) e))
