@@ -3,10 +3,12 @@ use layout::Layout;
 use layout::Window;
 use refusal::Refusal;
 use refusal::Verdict;
-ghost use Prim.Native.Nat.{_<_, _≤_};
+ghost use Prim.Native.Nat.{ℕ, _+_, _<_, _≤_};
 ghost use mathlib.Core.Bool.{_&&_};
 ghost use mathlib.Core.Path.{_≡_};
 ghost use lib.Dec.{eqb};
+ghost use lib.ListN.{getD};
+ghost use Rattle.layout.specs.Size.{entries};
 ghost use Rattle.layout.specs.Window.{l1Slot, l2Slot, slot};
 ghost use Rattle.refusal.specs.Outcome.{outcomeOf};
 ghost use Rattle.refusal.specs.Table.{first, given, each};
@@ -100,7 +102,8 @@ fn other_words(arena: &[u64], l: Layout, table: usize) -> Verdict
     ensures { λ r. ⌜ outcomeOf r ≡ first (otherRows (now (arena .entry)) l table) ⌝ }
 {
     let from = (table - 1) * Layout::ENTRIES;
-    for j in 0..Layout::ENTRIES {
+    let mut j = past_zeros(arena, from, 0);
+    while j < Layout::ENTRIES {
         let desc = verify_word::word_at(arena, from + j);
         if desc != 0 {
             if !live_at(l, table, j as u64) {
@@ -111,8 +114,23 @@ fn other_words(arena: &[u64], l: Layout, table: usize) -> Verdict
                 });
             }
         }
+        j = past_zeros(arena, from, j + 1);
     }
     Verdict::Accepted
+}
+
+// The index of the first word of a table, from j on, that is not 0. A loop of its own, so that no turn works out a slot.
+fn past_zeros(arena: &[u64], from: usize, j: usize) -> usize
+    requires { ⌜ from ≤ 1024 ⌝ }
+    requires { ⌜ j ≤ entries ⌝ }
+    ensures { λ r. ⌜ (j ≤ r) × (r ≤ entries) × ((k : ℕ) → k < r → j ≤ k → getD (now (arena .entry)) (from + k) 0 ≡ 0) ⌝ }
+{
+    for k in j..Layout::ENTRIES {
+        if verify_word::word_at(arena, from + k) != 0 {
+            return k;
+        }
+    }
+    Layout::ENTRIES
 }
 
 // Whether a word of one of tables 1 to 3 is wanted.

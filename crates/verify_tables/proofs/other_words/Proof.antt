@@ -1,7 +1,7 @@
 -- `other_words` meets its contract: the first row is that of the words from j on.
-use Prim.Native.Nat.{_-_}
+use Prim.Native.Nat.{_+_, _-_}
 use mathlib.Core.Logic.{⊎-elim}
-use mathlib.Core.Path.{_≡_, refl, sym, _∙_}
+use mathlib.Core.Path.{_≡_, sym, ap, _∙_}
 use borrow.Author.Needs.{needs}
 use borrow.Author.Tests.{eq-eqb, ne-eqb, not-true, not-false}
 use denote.Ref.{now}
@@ -9,6 +9,7 @@ use Rattle.layout.specs.Size.{entries}
 use Rattle.refusal.specs.Table.{first, each}
 use Rattle.verify_rows.proofs.Range.{rest, rest-at, rest-end}
 use Rattle.verify_rows.specs.Verifying.{otherRow, otherRows}
+use Rattle.verify_tables.proofs.Zeros.{zeros}
 use Rattle.verify_tables.proofs.other_words.Statement.{statement}
 use Rattle.verify_tables.proofs.other_words.Tie as tie
 
@@ -24,8 +25,13 @@ sub-from c = search needs
 mul-from : tie.Need-mul-from Inv-loop μ-loop
 mul-from c = search needs
 
+past-zeros-requires : tie.Need-past-zeros-requires Inv-loop μ-loop
+past-zeros-requires c κs = search needs
+
 loop-holds : tie.Need-loop-holds Inv-loop μ-loop
-loop-holds c = refl
+loop-holds c =
+    let a = c .before .before .args in
+    ap first (zeros (now (a .arena)) (a .l) (a .table) 0 (c .past-zeros .result) (c .past-zeros .ensures))
 
 add-word-at : tie.Need-add-word-at Inv-loop μ-loop
 add-word-at c = search needs
@@ -43,7 +49,7 @@ returns c =
     let t = v .before in
     let w = t .before in
     let h = w .before .before in
-    let a = h .before .before .args in
+    let a = h .before .before .before .args in
     let here = rest-at (otherRow (now (a .arena)) (a .l) (a .table)) entries (h .loop .j) (w .before .loop-test .taken) in
     rw (
       h .loop .inv,
@@ -54,8 +60,11 @@ returns c =
       not-true (v .live-at .result) (c .if2 .taken),
     )
 
-add-j : tie.Need-add-j Inv-loop μ-loop
-add-j c = search needs
+add-past-zeros : tie.Need-add-past-zeros Inv-loop μ-loop
+add-past-zeros c = search needs
+
+past-zeros-requires-2 : tie.Need-past-zeros-requires-2 Inv-loop μ-loop
+past-zeros-requires-2 c κs = search needs
 
 loop-less : tie.Need-loop-less Inv-loop μ-loop
 loop-less c = search needs
@@ -63,13 +72,17 @@ loop-less c = search needs
 loop-again : tie.Need-loop-again Inv-loop μ-loop
 unfolding otherRow
 loop-again c =
-    let w = c .before in
+    let v = c .before in
+    let w = v .before in
     let h = w .before .before in
-    let a = h .before .before .args in
-    let here = rest-at (otherRow (now (a .arena)) (a .l) (a .table)) entries (h .loop .j) (w .before .loop-test .taken) in
+    let a = h .before .before .before .args in
+    let row = otherRow (now (a .arena)) (a .l) (a .table) in
+    let here = rest-at row entries (h .loop .j) (w .before .loop-test .taken) in
+    let skipped = zeros (now (a .arena)) (a .l) (a .table) (h .loop .j + 1) (c .past-zeros2 .result) (c .past-zeros2 .ensures) in
     ⊎-elim
     (λ t.
     rw (
+      ← skipped,
       h .loop .inv,
       here,
       ← w .word-at .ensures,
@@ -77,8 +90,8 @@ loop-again c =
       ← t .1 .ensures,
       not-false (t .1 .result) (t .2 .left),
     ))
-    (λ t. rw (h .loop .inv, here, ← w .word-at .ensures, eq-eqb _ _ (t .left)))
-    (c .if1 .came)
+    (λ t. rw (← skipped, h .loop .inv, here, ← w .word-at .ensures, eq-eqb _ _ (t .left)))
+    (v .if1 .came)
 
 returns-2 : tie.Need-returns-2 Inv-loop μ-loop
 returns-2 c = let h = c .before in rest-end _ entries (h .loop .j) (c .loop-test .left) ∙ sym (h .loop .inv)
@@ -91,12 +104,14 @@ other-words-spec =
     μ-loop
     sub-from
     mul-from
+    past-zeros-requires
     loop-holds
     add-word-at
     word-at-requires
     live-at-requires
     returns
-    add-j
+    add-past-zeros
+    past-zeros-requires-2
     loop-less
     loop-again
     returns-2)
