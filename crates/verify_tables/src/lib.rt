@@ -125,8 +125,12 @@ fn past_zeros(arena: &[u64], from: usize, j: usize) -> usize
     requires { ⌜ j ≤ entries ⌝ }
     ensures { λ r. ⌜ (j ≤ r) × (r ≤ entries) × ((k : ℕ) → k < r → j ≤ k → getD (now (arena .entry)) (from + k) 0 ≡ 0) ⌝ }
 {
+    // A short arena is read word by word.
+    if arena.len() < from + Layout::ENTRIES {
+        return j;
+    }
     for k in j..Layout::ENTRIES {
-        if verify_word::word_at(arena, from + k) != 0 {
+        if arena[from + k] != 0 {
             return k;
         }
     }
