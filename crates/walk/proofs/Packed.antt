@@ -10,7 +10,8 @@ use Rattle.decode.specs.declared.DecodedTable.{DecodedTable}
 use Rattle.decode.specs.declared.DecodedTable.the-variants.{At, Nothing}
 use Rattle.desc.specs.Descriptor.{descriptorType, blockType, pageType}
 use Rattle.fields.specs.Named.{pick}
-use Rattle.walk.specs.Descent.{Words, index, fetch, endsAt, leads, descend, packed, unpacked}
+use Rattle.walk.specs.Descent.{Words, index, fetch, endsAt, leads, descend}
+use Rattle.walk.specs.Packed.{packed, unpacked}
 use Rattle.walk.specs.declared.Stop.{Stop}
 use Rattle.walk.specs.declared.Stop.the-variants.{Leaf, Stopped}
 

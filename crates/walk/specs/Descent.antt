@@ -55,12 +55,3 @@ descend tables ws zero named x = endsAt 0 (fetch 0 tables (ws 0) named (index 0 
 descend tables ws (suc left) named x =
     let d = fetch 0 tables (ws (suc left)) named (index (suc left) x) in
     leads (decodedTable d) (λ next. descend tables ws left next x) (endsAt (suc left) d)
-
--- a stop as one number: a leaf is its word, of type 11 at level 3 and 01 at level 2; else four times the level, of type 00
-abbrev pub packed : Stop → ℕ
-packed (Leaf level d) = d
-packed (Stopped level) = 4 * level
-
-abbrev pub unpacked : ℕ → Stop
-unpacked n =
-    pick (eqb (descriptorType n) pageType) (Leaf 3 n) (pick (eqb (descriptorType n) blockType) (Leaf 2 n) (Stopped (n / 4 % 4)))

@@ -1,2 +1,3 @@
 pub mod Descent
+pub mod Packed
 pub mod Walk

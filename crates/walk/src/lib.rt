@@ -15,7 +15,8 @@ ghost use Rattle.reach.specs.Reach.{toldOf};
 ghost use Rattle.refusal.specs.Table.{first};
 ghost use Rattle.refusal.specs.Told.{after};
 ghost use Rattle.rows.specs.Rows.{row1};
-ghost use Rattle.walk.specs.Descent.{index, wordsOf, fetch, descend, endsAt, packed, unpacked};
+ghost use Rattle.walk.specs.Descent.{index, wordsOf, fetch, descend, endsAt};
+ghost use Rattle.walk.specs.Packed.{packed, unpacked};
 ghost use Rattle.walk.specs.Walk.{joined, reading, walkOf};
 
 // Where a descent ends: at a leaf word, or at a level where no word leads on.

@@ -4,7 +4,8 @@ use mathlib.Core.Path.{_∙_, sym, ap}
 use native.Mathlib.Omega.{arith}
 use borrow.Author.Needs.{needs}
 use denote.Ref.{now}
-use Rattle.walk.specs.Descent.{wordsOf, packed}
+use Rattle.walk.specs.Descent.{wordsOf}
+use Rattle.walk.specs.Packed.{packed}
 use Rattle.walk.proofs.Down.{at-last, at-end, at-table}
 use borrow.Fn.Kinds.{In}
 use borrow.Fn.PlainCycle.{Measures, is, falls, and}

@@ -3,7 +3,8 @@ use Prim.Native.Nat.{ℕ}
 use mathlib.Core.Path.{_≡_, sym, ap}
 use native.Mathlib.Omega.{arith}
 use Rattle.decode.proofs.Fields.{has-type, not-type}
-use Rattle.walk.specs.Descent.{endsAt, packed}
+use Rattle.walk.specs.Descent.{endsAt}
+use Rattle.walk.specs.Packed.{packed}
 use Rattle.walk.proofs.end_at.Statement.{statement}
 use Rattle.walk.proofs.end_at.Tie as tie
 

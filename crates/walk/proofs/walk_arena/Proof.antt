@@ -3,7 +3,8 @@ use mathlib.Core.Path.{_∙_, sym, ap}
 use borrow.Author.Needs.{needs}
 use borrow.Author.Tests.{lt-ltb, le-ltb}
 use denote.Ref.{now}
-use Rattle.walk.specs.Descent.{wordsOf, unpacked}
+use Rattle.walk.specs.Descent.{wordsOf}
+use Rattle.walk.specs.Packed.{unpacked}
 use Rattle.walk.specs.Walk.{reading, walkOf}
 use Rattle.walk.proofs.Packed.{back}
 use Rattle.walk.proofs.walk_arena.Statement.{statement}
