@@ -6,12 +6,11 @@ use mathlib.Core.Path.{_≡_}
 use lib.Dec.{eqb}
 use Rattle.fields.specs.Named.{pick}
 use Rattle.perm.specs.declared.Perm.the-variants.{Ro}
-use Rattle.perm.specs.declared.Perm.{Perm}
 use Rattle.reach.specs.declared.Reached.{Reached}
 use Rattle.reach.specs.declared.Reached.the-variants.{At, Nothing}
 use Rattle.walk.specs.Descent.{Words}
 use Rattle.walk.specs.Walk.{walkOf}
-use Rattle.manual.specs.Translation.{Level, el0, el1, Access, reads, writes, executes, Machine, Translated, byte, fault, translation}
+use Rattle.manual.specs.Translation.{Level, el1, Access, reads, writes, executes, Machine, Translated, byte, fault, translation}
 
 abbrev pub tables : List ℕ
 tables = 0x1000 ∷ 0x2000 ∷ []

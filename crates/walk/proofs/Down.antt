@@ -1,7 +1,7 @@
 -- A descent, by the word that it reads first.
 use Prim.Native.Nat.{ℕ, zero, suc, _-_, _<_}
 use mathlib.Core.List.{List}
-use mathlib.Core.Path.{_≡_, refl, sym, ap, _∙_}
+use mathlib.Core.Path.{_≡_, sym, ap, _∙_}
 use native.Mathlib.Omega.{arith}
 use Rattle.decode.specs.Decoded.{decodedTable}
 use Rattle.decode.specs.declared.DecodedTable.{DecodedTable}

@@ -1,14 +1,14 @@
 -- Demand 2: in the slot of each window the descent sees what its region grants, and in no window's slot nothing.
-use Prim.Native.Nat.{ℕ, _+_, _-_, _*_, _/_, _%_, _^_, _≤_, _<_}
+use Prim.Native.Nat.{ℕ, _+_, _-_, _*_, _/_, _%_, _≤_, _<_}
 use mathlib.Core.Bool.{Bool, true, false, _&&_, false≢true}
-use mathlib.Core.List.{List, [], _∷_}
+use mathlib.Core.List.{List}
 use mathlib.Core.Path.{_≡_, refl, sym, ap, subst, _∙_}
 use native.Mathlib.Omega.{arith}
 use lib.Dec.{eqb, ltb}
-use lib.ListN.{length, getD, replicate, length-replicate}
+use lib.ListN.{getD, replicate, length-replicate}
 use borrow.Author.Tests.{eqb-true, eq-eqb, ne-eqb, ltb-true, ltb-false}
 use Rattle.accepted.proofs.Guarded.{guarded-facts, arena-guarded-facts}
-use Rattle.accepted.specs.Accepted.{Nameable, Within, Apart}
+use Rattle.accepted.specs.Accepted.{Apart}
 use Rattle.accepted.specs.Guarded.{Guarded}
 use Rattle.arena.proofs.At.{l1At, imageAt, dataAt, at-1, at-2, at-3, at-4, at-5, at-6}
 use Rattle.arena.proofs.Runs as Runs
@@ -31,7 +31,7 @@ use Rattle.perm.specs.declared.Perm.the-variants.{Rx}
 use Rattle.tables.proofs.Arena.{from-zeros}
 use Rattle.walk.specs.Descent.{Words, wordsOf, index, fetch}
 use Rattle.walk.specs.Walk.{walkOf}
-use Rattle.window_reach.specs.Granted.{Region, imageRegion, dataRegion, superRegion, deviceRegion, contains, grantedIn, grantedBy, granted}
+use Rattle.window_reach.specs.Granted.{imageRegion, dataRegion, superRegion, deviceRegion, contains, grantedBy, granted}
 use Rattle.walks.specs.Demand2.{addressesOf, Reaches, Demand2, Demand2Encoded}
 use Rattle.walks.proofs.Entries.{Entry, page-entry, block-entry, image-entry, device-entry}
 use Rattle.walks.proofs.Fetched.{fetched}

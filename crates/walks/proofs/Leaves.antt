@@ -1,7 +1,7 @@
 -- Emitted leaf words, as the walk and as the manual read them.
-use Prim.Native.Nat.{ℕ, _+_, _*_, _/_, _^_, _<_}
+use Prim.Native.Nat.{ℕ, _+_}
 use mathlib.Core.Bool.{Bool, true, false, not}
-use mathlib.Core.Path.{_≡_, refl, sym, ap, _∙_}
+use mathlib.Core.Path.{_≡_, refl}
 use native.Mathlib.Omega.{arith}
 use lib.Dec.{eqb}
 use Rattle.decode.proofs.Emitted.{emitted-decodes}
@@ -14,7 +14,7 @@ use Rattle.desc.specs.declared.AccessXn.{AccessXn}
 use Rattle.fields.specs.Bits.{bits}
 use Rattle.fields.specs.Named.{pick}
 use Rattle.fields.specs.Numbers.{bit}
-use Rattle.manual.specs.Translation.{Level, el0, el1, Access, reads, writes, executes, byte, fault, permits, leaf, allowed}
+use Rattle.manual.specs.Translation.{el0, el1, Access, reads, writes, executes, byte, fault, leaf, allowed}
 use Rattle.perm.specs.Perm.{permWrites}
 use Rattle.perm.specs.declared.Perm.the-variants.{Ro, Rw, Rx}
 use Rattle.perm.specs.declared.Perm.{Perm}

@@ -1,11 +1,10 @@
 -- What a descent through emitted words sees, and that walk and manual read it alike.
-use Prim.Native.Nat.{ℕ, _+_, _%_, _^_, _<_}
+use Prim.Native.Nat.{ℕ, _+_, _%_, _<_}
 use mathlib.Core.List.{List}
-use mathlib.Core.Path.{_≡_, refl, sym, ap, _∙_}
+use mathlib.Core.Path.{_≡_, ap, _∙_}
 use native.Mathlib.Omega.{arith}
-use lib.Dec.{eqb}
 use lib.ListN.{getD}
-use borrow.Author.Tests.{lt-ltb, eq-eqb}
+use borrow.Author.Tests.{lt-ltb}
 use Rattle.arena.specs.Word.{tableTo}
 use Rattle.decode.proofs.Emitted.{emitted-decodes}
 use Rattle.decode.specs.Decoded.{decodedTable}

@@ -9,7 +9,7 @@ use Rattle.accepted.specs.Accepted.{Within}
 use Rattle.layout.specs.Size.{block, l1Span, inputLimit}
 use Rattle.layout.specs.Window.{l1Slot, l2Slot, slot}
 use Rattle.layout.specs.declared.Window.{Window}
-use Rattle.window_reach.proofs.Contains.{Inside, inside}
+use Rattle.window_reach.proofs.Contains.{inside}
 use Rattle.window_reach.specs.Granted.{contains}
 
 -- an address in the window lies in its slot, below 2^39

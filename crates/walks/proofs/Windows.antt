@@ -4,14 +4,13 @@ use mathlib.Core.Bool.{Bool, true, false, false≢true}
 use mathlib.Core.List.{List}
 use mathlib.Core.Path.{_≡_, refl, sym, ap, subst, _∙_}
 use native.Mathlib.Omega.{arith}
-use lib.Dec.{eqb, leb, ltb}
+use lib.Dec.{leb, ltb}
 use lib.ListN.{getD}
-use borrow.Author.Tests.{eqb-true, eqb-false, leb-true, leb-false, ltb-true, ltb-false, le-leb, lt-ltb}
+use borrow.Author.Tests.{leb-true, leb-false, ltb-true, ltb-false}
 use Rattle.accepted.specs.Accepted.{Within}
 use Rattle.fields.specs.Named.{pick}
-use Rattle.layout.specs.Size.{entries, page, block, l1Span, inputLimit}
+use Rattle.layout.specs.Size.{entries, page, block, inputLimit}
 use Rattle.layout.specs.Window.{l1Slot, l2Slot, slot}
-use Rattle.layout.specs.declared.Window.{Window}
 use Rattle.reach.specs.declared.Reached.{Reached}
 use Rattle.reach.specs.declared.Reached.the-variants.{Nothing}
 use Rattle.walk.specs.Descent.{Words, index}

@@ -1,6 +1,6 @@
 -- No row compares tables with outputs: where no table lies in an output window, no address walks to a byte of a table.
 use Prim.Native.Nat.{ℕ, _+_, _≤_, _<_}
-use mathlib.Core.Bool.{true, false, _&&_}
+use mathlib.Core.Bool.{false}
 use mathlib.Core.List.{List}
 use mathlib.Core.Path.{_≡_}
 use Rattle.arena.specs.Encoded.{target}

@@ -1,5 +1,5 @@
 -- What row 8 lets by is not cut.
-use Prim.Native.Nat.{ℕ, _%_, _^_, _<_}
+use Prim.Native.Nat.{_%_, _^_, _<_}
 use mathlib.Core.Path.{_≡_, ap}
 use native.Mathlib.Omega.{arith}
 use Rattle.layout.specs.Window.{windowsWith, windowsOf}

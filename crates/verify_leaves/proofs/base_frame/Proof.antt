@@ -1,6 +1,6 @@
 -- `base_frame` meets its contract: the emitted word has no row, and another is compared by what is found with what the entry wants.
 use Prim.Native.Nat.{_+_, _*_}
-use mathlib.Core.Path.{_≡_, _∙_}
+use mathlib.Core.Path.{_∙_}
 use Rattle.layout.specs.Size.{page}
 use Rattle.verify_rows.specs.Verifying.{baseRow}
 use Rattle.verify_leaves.proofs.Emitted.{page-none}

@@ -1,5 +1,5 @@
 -- `device_slot` meets its contract: the emitted word has no row, and another is compared by what is found with what is wanted.
-use mathlib.Core.Path.{_≡_, _∙_}
+use mathlib.Core.Path.{_∙_}
 use Rattle.verify_rows.specs.Verifying.{deviceRow}
 use Rattle.verify_leaves.proofs.Emitted.{device-none}
 use borrow.Author.Needs.{needs}
