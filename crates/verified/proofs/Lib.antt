@@ -1,5 +1,4 @@
 pub mod LetsBy
-pub mod Read
 pub mod Told
 pub mod Verified
 pub mod VerifiedAlike

@@ -26,7 +26,7 @@ use Rattle.target_word.proofs.Place.{in-1, in-2, in-3}
 use Rattle.verify_rows.proofs.Range.{nowhere}
 use Rattle.verify_rows.specs.Verifying.{word, indices, live, liveRow, liveAt, otherRow, otherRows, l1Rows, imageRows, dataRows, baseRow, superRow, deviceRow, encodingRows, verifyRows}
 use Rattle.verified.specs.Verified.{Kept, ReadAlike, AlikeVerifies}
-use Rattle.verified.proofs.Read.{held-page, held-block, no-leaf-row, no-block-row, no-row18, no-row19, no-rows, no-other}
+use Rattle.verify_rows.proofs.Read.{held-page, held-block, no-leaf-row, no-block-row, no-row18, no-row19, no-rows, no-other}
 use Rattle.verified.proofs.Words.{l1-none, l1-data, l1-super, l1-image, l1-device, page-wanted, super-wanted, device-wanted}
 
 -- a word that names a table is read so

@@ -27,7 +27,7 @@ use Rattle.verify_rows.proofs.Range.{everywhere}
 use Rattle.verify_rows.specs.Verifying.{word, indices, live, liveOf, liveRow, windowAt, imageAt, liveAt, otherRow, otherRows, l1Rows, imageRows, dataRows, baseRow, superRow, deviceRow, encodingRows, verifyRows}
 use Rattle.verify_rows.specs.Word.{row18, row19}
 use Rattle.verified.specs.Verified.{Kept, VerifiedAlike}
-use Rattle.verified.proofs.Read.{held-page, held-block}
+use Rattle.verify_rows.proofs.Read.{held-page, held-block}
 use Rattle.verified.proofs.Told.{leaf-row-told, block-row-told, row18-told, row19-told, other-told}
 use Rattle.verified.proofs.Words.{l1-none, l1-data, l1-super, l1-image, l1-device, page-wanted, super-wanted, device-wanted}
 

@@ -26,7 +26,7 @@ use Rattle.layout.specs.declared.Window.{Window}
 use Rattle.target_word.proofs.Place.{run-before, run-past, run-inside, in-4, in-5, in-6, of-super, of-data, of-image, of-device}
 use Rattle.verify_rows.specs.Verifying.{liveOf, windowAt, covered, wantedBlock}
 use Rattle.verify_rows.specs.Word.{wantedLeaf}
-use Rattle.verified.proofs.Read.{held-block, page-read, block-read}
+use Rattle.verify_rows.proofs.Read.{held-block, page-read, block-read}
 
 -- no window at an index: no word
 none-of :

@@ -1,6 +1,7 @@
 -- The emitted word has no row: it is read as what is wanted.
 use Prim.Native.Nat.{ℕ, _+_, _-_, _≤_}
 use mathlib.Core.Bool.{Bool, true, false, _&&_}
+use mathlib.Core.List.{[]}
 use mathlib.Core.Path.{_≡_, refl, ap, _∙_}
 use native.Mathlib.Omega.{arith}
 use lib.Dec.{leb, ltb}
@@ -12,15 +13,14 @@ use Rattle.decode.specs.declared.DecodedBlock.the-variants.{Device, Nothing}
 use Rattle.desc.specs.Descriptor.{pageAddress, blockAddress}
 use Rattle.fields.specs.Named.{pick}
 use Rattle.refusal.specs.Table.{accepted, first}
-use Rattle.verified.proofs.Read.{held-block, page-read, block-read, no-leaf-row, no-block-row}
+use Rattle.verify_rows.proofs.Read.{held-block, page-read, block-read, no-leaf-row, no-block-row}
 use Rattle.verify_rows.specs.Verifying.{covered, wantedBlock}
 use Rattle.verify_rows.specs.Word.{wantedLeaf, leafRow, blockRow}
 
 pub page-none :
     (t j d m e x : ℕ) →
-    d ≡ leafFor e (pageTo x) → accepted ≡ first (leafRow t j d m (decodedPage d) (wantedLeaf e (pageAddress x) false))
-unfolding first
-page-none t j d m e x q = rw (no-leaf-row t j d m _ _ (ap decodedPage q ∙ page-read e x))
+    d ≡ leafFor e (pageTo x) → leafRow t j d m (decodedPage d) (wantedLeaf e (pageAddress x) false) ≡ []
+page-none t j d m e x q = no-leaf-row t j d m _ _ (ap decodedPage q ∙ page-read e x)
 
 pub block-none :
     (t j d m e x : ℕ) (exempt : Bool) →

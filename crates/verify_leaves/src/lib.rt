@@ -3,8 +3,9 @@ use decode::DecodedBlock;
 use decode::DecodedDevice;
 use layout::Layout;
 use refusal::Verdict;
-ghost use Prim.Native.Nat.{_+_, _<_};
+ghost use Prim.Native.Nat.{ℕ, _+_, _≤_, _<_};
 ghost use mathlib.Core.Bool.{_&&_};
+ghost use mathlib.Core.List.{[]};
 ghost use mathlib.Core.Path.{_≡_};
 ghost use lib.Dec.{leb, ltb};
 ghost use Rattle.arena.specs.Word.{deviceTo};
@@ -18,13 +19,27 @@ ghost use Rattle.verify_rows.specs.Verifying.{indices, baseRow, superRow, cover
 pub fn verify_base(arena: &[u64], base: &[u8], pa: u64) -> Verdict
     ensures { λ r. ⌜ outcomeOf r ≡ first (each (baseRow (now (arena .entry)) (now (base .entry)) pa) indices) ⌝ }
 {
-    for m in 0..Layout::ENTRIES {
+    for m in past_pages(arena, base, pa)..Layout::ENTRIES {
         let verdict = base_frame(arena, base, pa, m);
         let Verdict::Accepted = verdict else {
             return verdict;
         };
     }
     Verdict::Accepted
+}
+
+// How many words, from the first on, are the emitted ones. A loop of its own, since it decodes nothing.
+fn past_pages(arena: &[u64], base: &[u8], pa: u64) -> usize
+    ensures { λ r. ⌜ (r ≤ entries) × ((k : ℕ) → k < r → baseRow (now (arena .entry)) (now (base .entry)) pa k ≡ []) ⌝ }
+{
+    for m in 0..Layout::ENTRIES {
+        let d = verify_word::word_at(arena, 3 * Layout::ENTRIES + m);
+        let entry = lent::entry_at(base, m);
+        if d != arena::page_word(pa, m as u32, entry) {
+            return m;
+        }
+    }
+    Layout::ENTRIES
 }
 
 fn base_frame(arena: &[u64], base: &[u8], pa: u64, m: usize) -> Verdict
@@ -34,10 +49,6 @@ fn base_frame(arena: &[u64], base: &[u8], pa: u64, m: usize) -> Verdict
     let index = m as u64;
     let d = verify_word::word_at(arena, 3 * Layout::ENTRIES + m);
     let entry = lent::entry_at(base, m);
-    // Most words are the emitted one, and need no decoding.
-    if d == arena::page_word(pa, m as u32, entry) {
-        return Verdict::Accepted;
-    }
     let want = verify_word::wanted_leaf(entry, arena::page_address(pa, m as u32), false);
     verify_word::leaf(4, index, d, index, decode::decode_page(d), want)
 }
@@ -63,6 +74,7 @@ fn super_frame(arena: &[u64], sup: &[u8], ipa: u64, pa: u64, exempt: bool, m: us
     let index = (ipa / Layout::BLOCK_SIZE + m as u64) % 512;
     let d = verify_word::word_at(arena, 4 * Layout::ENTRIES + index as usize);
     let entry = lent::entry_at(sup, m);
+    // Most words are the emitted one, and need no decoding.
     if d == arena::block_word(pa, m as u32, exempt, entry) {
         return Verdict::Accepted;
     }

@@ -24,6 +24,23 @@ module _ (f : ℕ → List Row) (n i : ℕ) where
   unfolding first flatMap range
   rest-end h = let z : n - i ≡ 0 = omega (arith, h) in rw z
 
+-- numbers with no row are passed over
+ahead :
+    (f : ℕ → List Row) (n d i : ℕ) →
+    i + d ≤ n → ((k : ℕ) → k < i + d → i ≤ k → f k ≡ []) → each f (rest n i) ≡ each f (rest n (i + d))
+ahead f n zero i h none = let e : i + 0 ≡ i = omega arith in rw e
+ahead f n (suc d) i h none =
+    let e : i + suc d ≡ i + 1 + d = omega arith in
+    let later = ahead f n d (i + 1) (omega arith) (λ k lt le. none k (omega (arith, lt)) (omega (arith, le))) in
+    rw (e, rest-at f n i (omega arith), none i (omega arith) (omega arith)) later
+
+pub passed :
+    (f : ℕ → List Row) (n i r : ℕ) →
+    i ≤ r → r ≤ n → ((k : ℕ) → k < r → i ≤ k → f k ≡ []) → each f (rest n i) ≡ each f (rest n r)
+passed f n i r low high none =
+    let e : i + (r - i) ≡ r = omega arith in
+    rw e at (ahead f n (r - i) i (omega arith) (λ k lt le. none k (omega (arith, lt)) le))
+
 -- where no number has a row there is none
 
 none-from :

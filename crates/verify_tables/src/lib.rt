@@ -119,7 +119,7 @@ fn other_words(arena: &[u64], l: Layout, table: usize) -> Verdict
     Verdict::Accepted
 }
 
-// The index of the first word of a table, from j on, that is not 0. A loop of its own, so that no turn works out a slot.
+// An index up to which the words of a table, from j on, are 0. It works out no slot, and takes four words a turn.
 fn past_zeros(arena: &[u64], from: usize, j: usize) -> usize
     requires { ⌜ from ≤ 1024 ⌝ }
     requires { ⌜ j ≤ entries ⌝ }
@@ -129,12 +129,23 @@ fn past_zeros(arena: &[u64], from: usize, j: usize) -> usize
     if arena.len() < from + Layout::ENTRIES {
         return j;
     }
-    for k in j..Layout::ENTRIES {
+    let mut k = j;
+    while k + 4 <= Layout::ENTRIES {
         if arena[from + k] != 0 {
             return k;
         }
+        if arena[from + (k + 1)] != 0 {
+            return k;
+        }
+        if arena[from + (k + 2)] != 0 {
+            return k;
+        }
+        if arena[from + (k + 3)] != 0 {
+            return k;
+        }
+        k = k + 4;
     }
-    Layout::ENTRIES
+    k
 }
 
 // Whether a word of one of tables 1 to 3 is wanted.

@@ -1,10 +1,6 @@
--- `base_frame` meets its contract: the emitted word has no row, and another is compared by what is found with what the entry wants.
-use Prim.Native.Nat.{_+_, _*_}
-use mathlib.Core.Path.{_∙_}
-use Rattle.layout.specs.Size.{page}
-use Rattle.verify_rows.specs.Verifying.{baseRow}
-use Rattle.verify_leaves.proofs.Emitted.{page-none}
+-- `base_frame` meets its contract: what is found is compared with what the entry wants.
 use borrow.Author.Needs.{needs}
+use Rattle.verify_rows.specs.Verifying.{baseRow}
 use Rattle.verify_leaves.proofs.base_frame.Statement.{statement}
 use Rattle.verify_leaves.proofs.base_frame.Tie as tie
 
@@ -19,21 +15,6 @@ word-at-requires c κs = search needs
 
 entry-at-requires : tie.Need-entry-at-requires
 entry-at-requires c κs = search needs
-
-cast-page-word : tie.Need-cast-page-word
-cast-page-word c = search needs
-
-page-word-requires : tie.Need-page-word-requires
-page-word-requires c κs = search needs
-
-returns : tie.Need-returns
-unfolding baseRow
-returns c =
-    let word = c .before in
-    let entry = word .before in
-    let a = entry .before .before .before .before .args in
-    rw (← entry .before .word-at .ensures, ← entry .entry-at .ensures)
-    (page-none _ _ _ _ (entry .entry-at .result) (a .pa + a .m * page) (c .if1 .taken ∙ word .page-word .ensures))
 
 cast-page-address : tie.Need-cast-page-address
 cast-page-address c = search needs
@@ -50,13 +31,13 @@ decode-page-requires c κs = search needs
 leaf-requires : tie.Need-leaf-requires
 leaf-requires c κs = search needs
 
-returns-2 : tie.Need-returns-2
+returns : tie.Need-returns
 unfolding baseRow
-returns-2 c =
+returns c =
     let found = c .before in
     let want = found .before in
     let pa = want .before in
-    let entry = pa .before .before .before in
+    let entry = pa .before in
     rw (
       ← entry .before .word-at .ensures,
       ← entry .entry-at .ensures,
@@ -74,12 +55,9 @@ base-frame-spec =
     add-word-at
     word-at-requires
     entry-at-requires
-    cast-page-word
-    page-word-requires
-    returns
     cast-page-address
     page-address-requires
     wanted-leaf-requires
     decode-page-requires
     leaf-requires
-    returns-2)
+    returns)

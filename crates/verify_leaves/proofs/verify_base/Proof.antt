@@ -1,12 +1,14 @@
 -- `verify_base` meets its contract: the first row is that of the frames from m on.
 use Prim.Native.Nat.{_-_}
-use mathlib.Core.Path.{_≡_, refl, sym, _∙_}
+use mathlib.Core.Path.{_≡_, sym, ap, _∙_}
+use native.Mathlib.Omega.{arith}
 use borrow.Author.Needs.{needs}
+use denote.Ref.{now}
 use Rattle.layout.specs.Size.{entries}
 use Rattle.refusal.proofs.First.{next, stop}
 use Rattle.refusal.specs.Table.{first, each}
 use Rattle.verify_rows.specs.Verifying.{indices, baseRow}
-use Rattle.verify_rows.proofs.Range.{rest, rest-at, rest-end}
+use Rattle.verify_rows.proofs.Range.{rest, rest-at, rest-end, passed}
 use Rattle.verify_leaves.proofs.verify_base.Statement.{statement}
 use Rattle.verify_leaves.proofs.verify_base.Tie as tie
 
@@ -16,8 +18,16 @@ Inv-loop arena base pa m₀ m = first (each (baseRow arena base pa) indices) ≡
 abbrev μ-loop : tie.MeasureT-loop
 μ-loop arena base pa m₀ m = entries - m
 
+past-pages-requires : tie.Need-past-pages-requires Inv-loop μ-loop
+past-pages-requires c κs = search needs
+
 loop-holds : tie.Need-loop-holds Inv-loop μ-loop
-loop-holds c = refl
+loop-holds c =
+    let a = c .before .before .before .args in
+    let past = c .past-pages .ensures in
+    ap first
+    (passed (baseRow (now (a .arena)) (now (a .base)) (a .pa)) entries 0 (c .past-pages .result) (omega arith) (past .0)
+    (λ k lt le. past .1 k lt))
 
 base-frame-requires : tie.Need-base-frame-requires Inv-loop μ-loop
 base-frame-requires c κs = search needs
@@ -58,6 +68,7 @@ verify-base-spec =
     (tie.spec
     Inv-loop
     μ-loop
+    past-pages-requires
     loop-holds
     base-frame-requires
     enum-told

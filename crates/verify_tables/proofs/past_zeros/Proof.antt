@@ -25,6 +25,9 @@ returns c = (omega arith, omega arith, λ i lt le. omega (arith, lt, le))
 loop-holds : tie.Need-loop-holds Inv-loop μ-loop
 loop-holds c = (omega arith, omega arith, λ i lt le. omega (arith, lt, le))
 
+add-loop : tie.Need-add-loop Inv-loop μ-loop
+add-loop c = search needs
+
 add-if2 : tie.Need-add-if2 Inv-loop μ-loop
 add-if2 c = search needs
 
@@ -37,6 +40,51 @@ shared-slice-read-if2 c = search needs
 returns-2 : tie.Need-returns-2 Inv-loop μ-loop
 returns-2 c = c .before .before .before .loop .inv
 
+add-if3 : tie.Need-add-if3 Inv-loop μ-loop
+add-if3 c = search needs
+
+add-if3-2 : tie.Need-add-if3-2 Inv-loop μ-loop
+add-if3-2 c = search needs
+
+mul-if3 : tie.Need-mul-if3 Inv-loop μ-loop
+mul-if3 c = search needs
+
+shared-slice-read-if3 : tie.Need-shared-slice-read-if3 Inv-loop μ-loop
+shared-slice-read-if3 c = search needs
+
+returns-3 : tie.Need-returns-3 Inv-loop μ-loop
+returns-3 c = c .before .before .before .before .before .loop .inv
+
+add-if4 : tie.Need-add-if4 Inv-loop μ-loop
+add-if4 c = search needs
+
+add-if4-2 : tie.Need-add-if4-2 Inv-loop μ-loop
+add-if4-2 c = search needs
+
+mul-if4 : tie.Need-mul-if4 Inv-loop μ-loop
+mul-if4 c = search needs
+
+shared-slice-read-if4 : tie.Need-shared-slice-read-if4 Inv-loop μ-loop
+shared-slice-read-if4 c = search needs
+
+returns-4 : tie.Need-returns-4 Inv-loop μ-loop
+returns-4 c = c .before .before .before .before .before .before .before .loop .inv
+
+add-if5 : tie.Need-add-if5 Inv-loop μ-loop
+add-if5 c = search needs
+
+add-if5-2 : tie.Need-add-if5-2 Inv-loop μ-loop
+add-if5-2 c = search needs
+
+mul-if5 : tie.Need-mul-if5 Inv-loop μ-loop
+mul-if5 c = search needs
+
+shared-slice-read-if5 : tie.Need-shared-slice-read-if5 Inv-loop μ-loop
+shared-slice-read-if5 c = search needs
+
+returns-5 : tie.Need-returns-5 Inv-loop μ-loop
+returns-5 c = c .before .before .before .before .before .before .before .before .before .loop .inv
+
 add-k : tie.Need-add-k Inv-loop μ-loop
 add-k c = search needs
 
@@ -45,15 +93,21 @@ loop-less c = search needs
 
 loop-again : tie.Need-loop-again Inv-loop μ-loop
 loop-again c =
-    let h = c .before .before .before in
+    let third = c .before .before in
+    let second = third .before .before in
+    let first = second .before .before in
+    let h = first .before .before .before in
     let a = h .before .before .args in
-    let zero = below-next (λ i. a .j ≤ i → getD (now (a .arena)) (a .from + i) 0 ≡ 0) (h .loop .k) in
-    (omega arith, omega arith, zero (h .loop .inv .2) (λ le. c .if2 .left))
+    let k = h .loop .k in
+    let P : ℕ → Type 0 = λ i. a .j ≤ i → getD (now (a .arena)) (a .from + i) 0 ≡ 0 in
+    let one = below-next P k (h .loop .inv .2) (λ le. first .if2 .left) in
+    let two = below-next P (k + 1) one (λ le. second .if3 .left) in
+    let three = below-next P (k + 2) (λ i lt. two i (omega (arith, lt))) (λ le. third .if4 .left) in
+    let four = below-next P (k + 3) (λ i lt. three i (omega (arith, lt))) (λ le. c .if5 .left) in
+    (omega arith, omega arith, λ i lt. four i (omega (arith, lt)))
 
-returns-3 : tie.Need-returns-3 Inv-loop μ-loop
-returns-3 c =
-    let h = c .before in
-    (omega arith, omega arith, λ k lt le. h .loop .inv .2 k (omega (arith, lt, c .loop-test .left)) le)
+returns-6 : tie.Need-returns-6 Inv-loop μ-loop
+returns-6 c = c .before .loop .inv
 
 pub past-zeros-spec : {M : Type 1} → statement M
 past-zeros-spec =
@@ -64,11 +118,27 @@ past-zeros-spec =
     add-if1
     returns
     loop-holds
+    add-loop
     add-if2
     mul-if2
     shared-slice-read-if2
     returns-2
+    add-if3
+    add-if3-2
+    mul-if3
+    shared-slice-read-if3
+    returns-3
+    add-if4
+    add-if4-2
+    mul-if4
+    shared-slice-read-if4
+    returns-4
+    add-if5
+    add-if5-2
+    mul-if5
+    shared-slice-read-if5
+    returns-5
     add-k
     loop-less
     loop-again
-    returns-3)
+    returns-6)

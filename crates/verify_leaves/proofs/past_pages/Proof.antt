@@ -1,0 +1,87 @@
+-- `past_pages` meets its contract: the words before m are the emitted ones, which have no row.
+use Prim.Native.Nat.{ℕ, _+_, _-_, _*_, _≤_, _<_}
+use mathlib.Core.List.{[]}
+use mathlib.Core.Path.{_≡_, _∙_}
+use native.Mathlib.Nat.{not-suc-le-zero}
+use native.Mathlib.Omega.{arith}
+use borrow.Author.Needs.{needs}
+use denote.Ref.{now}
+use Rattle.fields.proofs.Below.{below-next}
+use Rattle.layout.specs.Size.{entries, page}
+use Rattle.verify_rows.specs.Verifying.{baseRow}
+use Rattle.verify_leaves.proofs.Emitted.{page-none}
+use Rattle.verify_leaves.proofs.past_pages.Statement.{statement}
+use Rattle.verify_leaves.proofs.past_pages.Tie as tie
+
+abbrev Inv-loop : tie.InvT-loop
+Inv-loop arena base pa m₀ m = (m ≤ entries) × ((k : ℕ) → k < m → baseRow arena base pa k ≡ [])
+
+abbrev μ-loop : tie.MeasureT-loop
+μ-loop arena base pa m₀ m = entries - m
+
+loop-holds : tie.Need-loop-holds Inv-loop μ-loop
+loop-holds c = (omega arith, λ k lt. absurd (not-suc-le-zero lt))
+
+mul-word-at : tie.Need-mul-word-at Inv-loop μ-loop
+mul-word-at c = search needs
+
+add-word-at : tie.Need-add-word-at Inv-loop μ-loop
+add-word-at c = search needs
+
+word-at-requires : tie.Need-word-at-requires Inv-loop μ-loop
+word-at-requires c κs = search needs
+
+entry-at-requires : tie.Need-entry-at-requires Inv-loop μ-loop
+entry-at-requires c κs = search needs
+
+cast-page-word : tie.Need-cast-page-word Inv-loop μ-loop
+cast-page-word c = search needs
+
+page-word-requires : tie.Need-page-word-requires Inv-loop μ-loop
+page-word-requires c κs = search needs
+
+returns : tie.Need-returns Inv-loop μ-loop
+returns c = c .before .before .before .before .before .loop .inv
+
+add-m : tie.Need-add-m Inv-loop μ-loop
+add-m c = search needs
+
+loop-less : tie.Need-loop-less Inv-loop μ-loop
+loop-less c = search needs
+
+loop-again : tie.Need-loop-again Inv-loop μ-loop
+unfolding baseRow
+loop-again c =
+    let word = c .before in
+    let entry = word .before in
+    let h = entry .before .before .before in
+    let a = h .before .before .before .args in
+    let row = baseRow (now (a .arena)) (now (a .base)) (a .pa) in
+    let here : row (h .loop .m) ≡ [] =
+    rw (← entry .before .word-at .ensures, ← entry .entry-at .ensures)
+    (page-none _ _ _ _ (entry .entry-at .result) (a .pa + h .loop .m * page) (c .if1 .left ∙ word .page-word .ensures)) in
+    (omega arith, below-next (λ k. row k ≡ []) (h .loop .m) (h .loop .inv .1) here)
+
+returns-2 : tie.Need-returns-2 Inv-loop μ-loop
+returns-2 c =
+    let h = c .before in
+    (omega arith, λ k lt. h .loop .inv .1 k (omega (arith, lt, c .loop-test .left)))
+
+pub past-pages-spec : {M : Type 1} → statement M
+past-pages-spec =
+    tie.close
+    (tie.spec
+    Inv-loop
+    μ-loop
+    loop-holds
+    mul-word-at
+    add-word-at
+    word-at-requires
+    entry-at-requires
+    cast-page-word
+    page-word-requires
+    returns
+    add-m
+    loop-less
+    loop-again
+    returns-2)
