@@ -1,7 +1,7 @@
 -- What is granted lies in an output window, where no table begins and so, both being whole pages, no byte of one stands.
 use Prim.Native.Nat.{ℕ, _+_, _-_, _/_, _%_, _≤_, _<_}
 use mathlib.Core.Bool.{Bool, true, false, false≢true}
-use mathlib.Core.List.{List, [], _∷_}
+use mathlib.Core.List.{List, [], _∷_, flatMap}
 use mathlib.Core.Path.{_≡_, refl, sym, ap, _∙_}
 use native.Mathlib.Omega.{arith}
 use lib.Dec.{eqb}
@@ -10,9 +10,9 @@ use Rattle.accepted.proofs.Guarded.{guarded-facts}
 use Rattle.accepted.specs.Accepted.{Nameable}
 use Rattle.accepted.specs.Guarded.{Guarded}
 use Rattle.desc.specs.Words.{leafAccessXn}
-use Rattle.exposed.specs.Exposed.{liesIn}
+use Rattle.exposed.specs.Exposed.{liesIn, firstWindow, firstTable}
 use Rattle.fields.specs.Named.{pick}
-use Rattle.layout.specs.Layout.{tablesOf}
+use Rattle.layout.specs.Layout.{layoutOf, tablesOf}
 use Rattle.layout.specs.Size.{page, block, outputLimit}
 use Rattle.layout.specs.Window.{imageWindow, dataWindow, superWindow, deviceWindow, windowsOf}
 use Rattle.layout.specs.declared.Layout.{Layout}
@@ -24,9 +24,11 @@ use Rattle.reach.specs.declared.Reach.{Reach}
 use Rattle.reach.specs.declared.Reached.{Reached}
 use Rattle.reach.specs.declared.Reached.the-variants.{At, Nothing}
 use Rattle.refusal.specs.All.{All}
+use Rattle.refusal.specs.Table.{first, eachFrom, pairs}
+use Rattle.rows.specs.Rows.{row1, row2, row3, row4, row5, row6, row7, row8, row9, row10, row13, row14, lengthRows, mapRows, pairRows, windowRows, refusalsAt, guardRows, arenaGuardRows}
 use Rattle.window_reach.proofs.Contains.{Inside, inside}
 use Rattle.window_reach.specs.Granted.{Region, regionsOf, contains, reachAt, byEntry, grantedIn, grantedBy, granted}
-use Rattle.walks.specs.OutOfReach.{ByteOf, OutOfReach}
+use Rattle.walks.specs.OutOfReach.{ByteOf, OutOfReach, TableHandedOut}
 use Rattle.walks.proofs.Demand2.{image-itself, demand-2}
 
 abbrev outputAt : Reached → ℕ
@@ -111,3 +113,7 @@ pub out-of-reach : OutOfReach
 out-of-reach l base sup words e all apart x r walked =
     let g = guarded-facts outputLimit base sup l e in
     no-bytes l base sup g x r (sym (demand-2 l base sup words e all x .walks) ∙ walked) (tablesOf l) (g .layout .tables) apart
+
+pub table-handed-out : TableHandedOut
+unfolding layoutOf first flatMap eachFrom pairs row1 row2 row3 row4 row5 row6 row7 row8 row9 row10 row13 row14 lengthRows mapRows pairRows windowRows refusalsAt guardRows arenaGuardRows grantedBy firstWindow firstTable
+table-handed-out = record { lets-by = refl; reached = refl; told = refl }
