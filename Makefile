@@ -14,10 +14,12 @@ run:
 	@rt check s2dump >target/run.log 2>&1 || { cat target/run.log; exit 1; }
 	@target/bin/s2dump <scenes/S.txt
 
+# rt ci begins by removing target/: run first, what it proved serves the rest. Its report comes last.
 test:
 	@rt fmt --check
-	@$(MAKE) --no-print-directory header compare scenes
-	@exec rt ci
+	@report=$$(mktemp) && trap 'rm -f $$report' EXIT && \
+	    { rt ci >$$report 2>&1 || { cat $$report; exit 1; }; } && \
+	    $(MAKE) --no-print-directory header compare scenes && cat $$report
 
 fmt:
 	@rt fmt
