@@ -5,7 +5,7 @@
 
 use crate::dump_inputs::{bad_texts, example_texts, mangled_texts, texts};
 use crate::encode::{encode, Encoded, TABLE_LEN};
-use crate::function::{Answer, Function, Input, Layer, Reply};
+use crate::function::{answers, Answer, Function, Input, Layer, Reply};
 use crate::layout::row;
 use crate::port_dump;
 use crate::scene_text::scene;
@@ -64,20 +64,7 @@ pub const LAYER: Layer<Text> = Layer {
     ],
 };
 
-const ANSWERS: &[Answer] = &[
-    ("words", row::<0>),
-    ("row 4", row::<4>),
-    ("row 5", row::<5>),
-    ("row 6", row::<6>),
-    ("row 7", row::<7>),
-    ("row 8", row::<8>),
-    ("row 9", row::<9>),
-    ("row 10", row::<10>),
-    ("row 11", row::<11>),
-    ("row 12", row::<12>),
-    ("row 13", row::<13>),
-    ("row 14", row::<14>),
-];
+const ANSWERS: &[Answer] = answers!([("words", row::<0>)] 4 5 6 7 8 9 10 11 12 13 14);
 
 impl Input for Text {
     type Op = Lines;

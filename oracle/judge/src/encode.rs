@@ -9,7 +9,7 @@ use std::ops::Range;
 use given_s2::arm64::{self, Tables};
 
 use crate::encode_inputs::{accepted_scenes, changed_scenes, filled_scenes, scenes};
-use crate::function::{Answer, Function, Input, Layer, Reply};
+use crate::function::{answers, Answer, Function, Input, Layer, Reply};
 use crate::inputs::{hex, words, Outcome};
 use crate::layout::{self, layout, pairs, row, Fields, ACCEPTED, LEAST, SUP_FRAMES, TABLES};
 use crate::maps;
@@ -73,23 +73,7 @@ pub const LAYER: Layer<Scene> = Layer {
     ],
 };
 
-const ANSWERS: &[Answer] = &[
-    ("accepted", row::<0>),
-    ("row 1", row::<1>),
-    ("row 2", row::<2>),
-    ("row 3", row::<3>),
-    ("row 4", row::<4>),
-    ("row 5", row::<5>),
-    ("row 6", row::<6>),
-    ("row 7", row::<7>),
-    ("row 8", row::<8>),
-    ("row 9", row::<9>),
-    ("row 10", row::<10>),
-    ("row 11", row::<11>),
-    ("row 12", row::<12>),
-    ("row 13", row::<13>),
-    ("row 14", row::<14>),
-];
+const ANSWERS: &[Answer] = answers!([("accepted", row::<0>)] 1 2 3 4 5 6 7 8 9 10 11 12 13 14);
 
 impl Input for Scene {
     type Op = ();

@@ -5,9 +5,9 @@
 
 use crate::exposed_faults::FAULTS;
 use crate::exposed_inputs::{around_windows, example_layouts};
-use crate::function::{Answer, Function, Input, Layer};
+use crate::function::{answers, Answer, Function, Input, Layer};
 use crate::inputs::{hex, words, Outcome};
-use crate::layout::{all_windows, row, validate, Fields, Window, ACCEPTED, LEAST, TABLES};
+use crate::layout::{all_windows, validate, Fields, Window, ACCEPTED, LEAST, TABLES};
 use crate::layout_inputs::layouts;
 use crate::port_layouts;
 
@@ -29,28 +29,22 @@ pub const LAYER: Layer<Exposed> = Layer {
     faults: &[FAULTS],
 };
 
-const ANSWERS: &[Answer] = &[
-    ("none", |answer| *answer == ACCEPTED),
-    ("l1", table::<1>),
-    ("l2_code", table::<2>),
-    ("l2_data", table::<3>),
-    ("l3_data", table::<4>),
-    ("l2_sup", table::<5>),
-    ("l2_dev", table::<6>),
-    ("in the image", window::<1>),
-    ("in data", window::<2>),
-    ("in super", window::<3>),
-    ("in device", window::<4>),
-    ("row 4", row::<4>),
-    ("row 5", row::<5>),
-    ("row 6", row::<6>),
-    ("row 7", row::<7>),
-    ("row 8", row::<8>),
-    ("row 9", row::<9>),
-    ("row 10", row::<10>),
-    ("row 11", row::<11>),
-    ("row 12", row::<12>),
-];
+const ANSWERS: &[Answer] = answers!(
+    [
+        ("none", |answer| *answer == ACCEPTED),
+        ("l1", table::<1>),
+        ("l2_code", table::<2>),
+        ("l2_data", table::<3>),
+        ("l3_data", table::<4>),
+        ("l2_sup", table::<5>),
+        ("l2_dev", table::<6>),
+        ("in the image", window::<1>),
+        ("in data", window::<2>),
+        ("in super", window::<3>),
+        ("in device", window::<4>),
+    ]
+    4 5 6 7 8 9 10 11 12
+);
 
 fn table<const NUMBER: u64>(answer: &[u64]) -> bool {
     answer[..3] == [0, 1, NUMBER]

@@ -83,6 +83,14 @@ pub struct Function<I: Input = Words> {
 /// A kind of answer, and whether an answer is of that kind.
 pub type Answer = (&'static str, fn(&[u64]) -> bool);
 
+/// The kinds of answer that are named, and then a refusal by each row.
+macro_rules! answers {
+    ([$($named:expr),* $(,)?] $($number:literal)*) => {
+        &[$($named,)* $((concat!("row ", $number), $crate::layout::row::<$number>),)*]
+    };
+}
+pub(crate) use answers;
+
 /// A slip on the port's side that the comparison must notice.
 pub struct Fault<I: Input = Words> {
     pub name: &'static str,

@@ -7,7 +7,7 @@ use std::ops::Range;
 
 use given_s2::arm64::{EncodingViolation, Layout};
 
-use crate::function::{Answer, Function, Input, Layer};
+use crate::function::{answers, Answer, Function, Input, Layer};
 use crate::inputs::{hex, words, Outcome};
 use crate::layout_faults::FAULTS;
 use crate::layout_inputs::{examples, layouts};
@@ -62,18 +62,7 @@ pub const LAYER: Layer<Fields> = Layer {
     faults: &[FAULTS],
 };
 
-const ANSWERS: &[Answer] = &[
-    ("accepted", row::<0>),
-    ("row 4", row::<4>),
-    ("row 5", row::<5>),
-    ("row 6", row::<6>),
-    ("row 7", row::<7>),
-    ("row 8", row::<8>),
-    ("row 9", row::<9>),
-    ("row 10", row::<10>),
-    ("row 11", row::<11>),
-    ("row 12", row::<12>),
-];
+const ANSWERS: &[Answer] = answers!([("accepted", row::<0>)] 4 5 6 7 8 9 10 11 12);
 
 /// Whether an answer is this row's. Row 0 is none: the layout is accepted.
 pub fn row<const NUMBER: u64>(answer: &[u64]) -> bool {

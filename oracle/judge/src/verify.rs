@@ -6,7 +6,7 @@
 use given_s2::arm64::{verify_encoding, Decoded, EncodingViolation, TablesRef};
 
 use crate::encode::{rows_1_to_12, Scene};
-use crate::function::{Answer, Function, Input, Layer};
+use crate::function::{answers, Answer, Function, Input, Layer};
 use crate::inputs::{words, Outcome};
 use crate::layout::{code, layout, row, ACCEPTED, LEAST, TABLE_NAMES};
 use crate::maps;
@@ -83,26 +83,8 @@ const fn of_table<const TABLE: usize>(
     }
 }
 
-const ROWS: &[Answer] = &[
-    ("accepted", row::<0>),
-    ("row 1", row::<1>),
-    ("row 2", row::<2>),
-    ("row 3", row::<3>),
-    ("row 4", row::<4>),
-    ("row 5", row::<5>),
-    ("row 6", row::<6>),
-    ("row 7", row::<7>),
-    ("row 8", row::<8>),
-    ("row 9", row::<9>),
-    ("row 10", row::<10>),
-    ("row 11", row::<11>),
-    ("row 12", row::<12>),
-    ("row 18", row::<18>),
-    ("row 19", row::<19>),
-    ("row 20", row::<20>),
-    ("row 21", row::<21>),
-    ("row 22", row::<22>),
-];
+const ROWS: &[Answer] =
+    answers!([("accepted", row::<0>)] 1 2 3 4 5 6 7 8 9 10 11 12 18 19 20 21 22);
 
 const TABLE_1: &[Answer] = &[
     ("accepted", row::<0>),
