@@ -33,6 +33,7 @@
  * 23      domain, frame, owner (optional), permission
  * 24      domain, frame, owner
  * 25      domain, frame, mapped, expected
+ * 26      nothing
  *
  * Codes: maps 1 base, 2 super (the one map of s2_authorized is 1); windows 1 image, 2 data, 3 super, 4 device; tables 1 l1,
  * 2 l2_code, 3 l2_data, 4 l3_data, 5 l2_sup, 6 l2_dev; checks 1 data ipa, 2 data pa, 3 super ipa, 4 super pa, 5 image, 6 device.
@@ -51,6 +52,9 @@ extern "C" {
 
 /* The words of an arena: tables 1 to 6 of 512 words each. */
 #define S2_ARENA_LEN 3072
+
+/* The steps of an update: 0 to S2_STEPS - 1. */
+#define S2_STEPS 6144
 
 /* The most entries of a map. */
 #define S2_MAP_LEN 512
@@ -99,6 +103,20 @@ uint32_t s2_encode(
     const uint8_t *base, size_t base_len,
     const uint8_t *sup, size_t sup_len,
     S2_LAYOUT,
+    uint64_t values[8]);
+
+/* One step of an update to the tables of a layout and two maps: rows 1 to 14, then 26. A step makes one store: below S2_ARENA_LEN, 0 at
+ * word `step`; from there on, at word S2_STEPS - 1 - `step`, what encoding into zeros leaves there. Steps are made in order, from 0 on, and
+ * an update that was cut is begun again at 0. Up to half-way, S2_ARENA_LEN stores, an address reaches what it reached before the update or
+ * nothing; from there on what it is granted or nothing; after the last store what it is granted. For this, the layout, and the edges that
+ * the maps are filled from, are the same through one update, the table addresses through all, and nothing else stores to the arena. Barriers
+ * and cached translations are the caller's. */
+uint32_t s2_step(
+    uint64_t *arena, size_t arena_len,
+    const uint8_t *base, size_t base_len,
+    const uint8_t *sup, size_t sup_len,
+    S2_LAYOUT,
+    uint64_t step,
     uint64_t values[8]);
 
 /* What an address reaches: row 1. The walk starts at l1_pa; a fetch reads the first table whose address is exactly the one named, else

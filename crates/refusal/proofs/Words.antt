@@ -6,7 +6,7 @@ use native.Mathlib.Omega.{arith}
 use lib.ListN.{length, getD, drop, drop-of-length-le}
 use lib.Seq.{drop-cons}
 use Rattle.refusal.specs.Outcome.{outcomeOf, outcomeWords}
-use Rattle.refusal.specs.declared.Refusal.the-variants.{ArenaLength, MapLength, MapCode, DeviceWindowUnaligned, GranuleNotEmitted, WindowUnaligned, TableUnnameable, SuperFramesUncountable, RegionCrossesL1, OutputPastLimit, RegionsCollide, WindowsOverlap, TablesEqual, SuperUnbacked, UnsupportedSpan, OutOfRange, SpanConflict, BadTableEntry, BadImageBlock, BadLeaf, SpuriousDescriptor, BadDeviceBlock, UnauthorizedMapping, WriteEscalation, Inexact}
+use Rattle.refusal.specs.declared.Refusal.the-variants.{ArenaLength, MapLength, MapCode, DeviceWindowUnaligned, GranuleNotEmitted, WindowUnaligned, TableUnnameable, SuperFramesUncountable, RegionCrossesL1, OutputPastLimit, RegionsCollide, WindowsOverlap, TablesEqual, SuperUnbacked, UnsupportedSpan, OutOfRange, SpanConflict, BadTableEntry, BadImageBlock, BadLeaf, SpuriousDescriptor, BadDeviceBlock, UnauthorizedMapping, WriteEscalation, Inexact, StepPastLast}
 use Rattle.refusal.specs.declared.Verdict.the-variants.{Accepted, Refused}
 use Rattle.refusal.specs.declared.Verdict.{Verdict}
 
@@ -37,6 +37,7 @@ number-below (Refused (BadDeviceBlock index desc)) = omega arith
 number-below (Refused (UnauthorizedMapping dom mfn owned owner perm)) = omega arith
 number-below (Refused (WriteEscalation dom mfn owner)) = omega arith
 number-below (Refused (Inexact dom mfn mapped expected)) = omega arith
+number-below (Refused StepPastLast) = omega arith
 
 pub nine :
     (w : List ℕ) →

@@ -4,7 +4,7 @@ use mathlib.Core.List.{List, [], _∷_}
 use Rattle.fields.specs.Numbers.{eight}
 use Rattle.refusal.specs.Table.{Row, row, Outcome, accepted, refused}
 use Rattle.refusal.specs.declared.Refusal.{Refusal}
-use Rattle.refusal.specs.declared.Refusal.the-variants.{ArenaLength, MapLength, MapCode, DeviceWindowUnaligned, GranuleNotEmitted, WindowUnaligned, TableUnnameable, SuperFramesUncountable, RegionCrossesL1, OutputPastLimit, RegionsCollide, WindowsOverlap, TablesEqual, SuperUnbacked, UnsupportedSpan, OutOfRange, SpanConflict, BadTableEntry, BadImageBlock, BadLeaf, SpuriousDescriptor, BadDeviceBlock, UnauthorizedMapping, WriteEscalation, Inexact}
+use Rattle.refusal.specs.declared.Refusal.the-variants.{ArenaLength, MapLength, MapCode, DeviceWindowUnaligned, GranuleNotEmitted, WindowUnaligned, TableUnnameable, SuperFramesUncountable, RegionCrossesL1, OutputPastLimit, RegionsCollide, WindowsOverlap, TablesEqual, SuperUnbacked, UnsupportedSpan, OutOfRange, SpanConflict, BadTableEntry, BadImageBlock, BadLeaf, SpuriousDescriptor, BadDeviceBlock, UnauthorizedMapping, WriteEscalation, Inexact, StepPastLast}
 use Rattle.refusal.specs.declared.Verdict.{Verdict}
 use Rattle.refusal.specs.declared.Verdict.the-variants.{Accepted, Refused}
 
@@ -35,6 +35,7 @@ rowOf (BadDeviceBlock index desc) = row 22 (index ∷ desc ∷ [])
 rowOf (UnauthorizedMapping dom mfn owned owner perm) = row 23 (dom ∷ mfn ∷ owned ∷ owner ∷ perm ∷ [])
 rowOf (WriteEscalation dom mfn owner) = row 24 (dom ∷ mfn ∷ owner ∷ [])
 rowOf (Inexact dom mfn mapped expected) = row 25 (dom ∷ mfn ∷ mapped ∷ expected ∷ [])
+rowOf StepPastLast = row 26 []
 
 abbrev pub outcomeOf : Verdict → Outcome
 outcomeOf Accepted = accepted

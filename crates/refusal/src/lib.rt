@@ -2,7 +2,7 @@
 ghost use mathlib.Core.Path.{_≡_};
 ghost use Rattle.refusal.specs.Outcome.{outcomeOf, outcomeWords, rowWords, rowOf};
 
-// Rows 1 to 25, by the Rust's names where it has them, with the values that a refusal carries. Names are document 01's codes: maps,
+// Rows 1 to 26, by the Rust's names where it has them, with the values that a refusal carries. Names are document 01's codes: maps,
 // windows and tables, and in `WindowUnaligned` row 6's checks. What may be none is told by a 1 and its values, or by zeros: an owner by
 // `owned`, what a word decodes to by `found`, what it should by `expects`. A permission is an entry of a map, an access 1 Ro or 2 Rw.
 pub enum Refusal {
@@ -111,6 +111,7 @@ pub enum Refusal {
         mapped: u64,
         expected: u64,
     },
+    StepPastLast,
 }
 
 pub enum Verdict {
@@ -217,6 +218,7 @@ impl Refusal {
                 mapped,
                 expected,
             } => [25, dom, mfn, mapped, expected, 0, 0, 0, 0],
+            Refusal::StepPastLast => [26, 0, 0, 0, 0, 0, 0, 0, 0],
         }
     }
 }

@@ -21,6 +21,7 @@ use Rattle.refusal.specs.Outcome.{outcomeWords}
 use Rattle.refusal.specs.Table.{Outcome, first}
 use Rattle.refusal.specs.Told.{after, toldWords}
 use Rattle.rows.specs.Rows.{row1, refusals, arenaGuardRows}
+use Rattle.update.specs.Step.{stepRows, leftBy}
 use Rattle.verify_rows.specs.Verifying.{verifyRows}
 use Rattle.walk.specs.Descent.{wordsOf}
 use Rattle.walk.specs.Walk.{walkOf}
@@ -42,6 +43,14 @@ encodeOutcome numbers base sup arena = first (arenaGuardRows outputLimit arena b
 pub record EncodeAnswer (numbers base sup old answer new : List ℕ) : Type 0 where
   pub outcome : answer ≡ outcomeWords (encodeOutcome numbers base sup old)
   pub words : Over (left (encodeOutcome numbers base sup old) (layoutOf numbers) base sup) old new
+
+abbrev pub stepOutcome : List ℕ → List ℕ → List ℕ → ℕ → List ℕ → Outcome
+stepOutcome numbers base sup n arena = first (stepRows (layoutOf numbers) base sup n arena)
+
+-- the answer, and the words at exit
+pub record StepAnswer (numbers base sup : List ℕ) (n : ℕ) (old answer new : List ℕ) : Type 0 where
+  pub outcome : answer ≡ outcomeWords (stepOutcome numbers base sup n old)
+  pub words : new ≡ leftBy (stepOutcome numbers base sup n old) (layoutOf numbers) base sup n old
 
 -- by the arena, the six table addresses and the address
 abbrev pub walkAnswer : List ℕ → List ℕ → ℕ → List ℕ

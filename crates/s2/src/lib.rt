@@ -8,7 +8,7 @@ ghost use mathlib.Core.List.{[], _∷_};
 ghost use mathlib.Core.Path.{_≡_};
 ghost use lib.ListN.{getD};
 ghost use Rattle.refusal.specs.Outcome.{outcomeOf, outcomeWords};
-ghost use Rattle.s2.specs.Answers.{validateAnswer, fillAnswer, EncodeAnswer, walkAnswer, verifyAnswer, exposedAnswer, authorizedAnswer, spanNumbered, exactAnswer};
+ghost use Rattle.s2.specs.Answers.{validateAnswer, fillAnswer, EncodeAnswer, StepAnswer, walkAnswer, verifyAnswer, exposedAnswer, authorizedAnswer, spanNumbered, exactAnswer};
 
 // Rows 4 to 12.
 #[no_mangle]
@@ -122,6 +122,59 @@ pub extern "C" fn s2_encode(
     ];
     answer(
         encode::encode(arena, base, sup, Layout::of(&numbers)),
+        values,
+    )
+}
+
+// Rows 1 to 14, then 26. One store of an update; a refusal leaves every word of the arena as found.
+#[no_mangle]
+pub extern "C" fn s2_step(
+    arena: &mut [u64],
+    base: &[u8],
+    sup: &[u8],
+    l1_pa: u64,
+    l2_code_pa: u64,
+    l2_data_pa: u64,
+    l3_data_pa: u64,
+    l2_sup_pa: u64,
+    l2_dev_pa: u64,
+    has_image: u64,
+    guest_image_pa: u64,
+    data_ipa_base: u64,
+    data_pa_base: u64,
+    frame_size: u64,
+    sup_ipa_base: u64,
+    sup_pa_base: u64,
+    device_base: u64,
+    device_len: u64,
+    sup_wx_exempt: u64,
+    sup_frames: u64,
+    step: u64,
+    values: &mut [u64; 8],
+) -> u32
+    ensures { λ r. ⌜ StepAnswer («l1_pa» ∷ «l2_code_pa» ∷ «l2_data_pa» ∷ «l3_data_pa» ∷ «l2_sup_pa» ∷ «l2_dev_pa» ∷ «has_image» ∷ «guest_image_pa» ∷ «data_ipa_base» ∷ «data_pa_base» ∷ «frame_size» ∷ «sup_ipa_base» ∷ «sup_pa_base» ∷ «device_base» ∷ «device_len» ∷ «sup_wx_exempt» ∷ «sup_frames» ∷ []) (now (base .entry)) (now (sup .entry)) step (now (arena .entry)) (r ∷ now (values .exit)) (now (arena .exit)) ⌝ }
+{
+    let numbers = [
+        l1_pa,
+        l2_code_pa,
+        l2_data_pa,
+        l3_data_pa,
+        l2_sup_pa,
+        l2_dev_pa,
+        has_image,
+        guest_image_pa,
+        data_ipa_base,
+        data_pa_base,
+        frame_size,
+        sup_ipa_base,
+        sup_pa_base,
+        device_base,
+        device_len,
+        sup_wx_exempt,
+        sup_frames,
+    ];
+    answer(
+        update::step(arena, base, sup, Layout::of(&numbers), step),
         values,
     )
 }

@@ -86,6 +86,9 @@ enum-known-self-21 c = search needs
 enum-known-self-22 : tie.Need-enum-known-self-22
 enum-known-self-22 c = search needs
 
+enum-told-4 : tie.Need-enum-told-4
+enum-told-4 c = search needs
+
 returns : tie.Need-returns
 returns c = sym (ap wordsOf (c .enum-told .given .1))
 
@@ -161,6 +164,9 @@ returns-24 c = sym (ap wordsOf (c .before .self21 .given .1))
 returns-25 : tie.Need-returns-25
 returns-25 c = sym (ap wordsOf (c .before .self22 .given .1))
 
+returns-26 : tie.Need-returns-26
+returns-26 c = sym (ap wordsOf (c .enum-told4 .given .1))
+
 pub words-spec : {M : Type 1} → statement M
 words-spec =
     tie.close
@@ -190,6 +196,7 @@ words-spec =
     enum-known-self-20
     enum-known-self-21
     enum-known-self-22
+    enum-told-4
     returns
     returns-2
     returns-3
@@ -214,4 +221,5 @@ words-spec =
     returns-22
     returns-23
     returns-24
-    returns-25)
+    returns-25
+    returns-26)
