@@ -9,7 +9,7 @@ use borrow.Author.Tests.{ltb-true}
 use Rattle.edge.specs.Edge.{entryOf, counts}
 use Rattle.edge.specs.declared.Edge.{Edge}
 use Rattle.exact.proofs.After.{stored, stays}
-use Rattle.exact.specs.Exact.{isSpan, lands, afterEdge, afterEdges}
+use Rattle.exact.specs.Exact.{isSpan, lands, afterEdge, afterEdges, expected}
 use Rattle.fields.specs.Named.{pick}
 use Rattle.filling.proofs.Onward.{on, off}
 use Rattle.filling.proofs.Placed.{place-none, place-next, place-stop}
@@ -71,7 +71,7 @@ module _ (frames : List (List ℕ)) (dom p : ℕ) where
         go false c a = stays frames dom s p e (getD (mapOf s f) p 0) (rw c)
 
 -- what was accepted in the end was accepted before
-accepted-before :
+pub accepted-before :
     (frames : List (List ℕ)) (dom : ℕ) (es : List Edge) (f : Filling) →
     placedAll frames dom es f .outcome ≡ accepted → f .outcome ≡ accepted
 accepted-before frames dom es f a = go (f .outcome) refl
@@ -135,11 +135,16 @@ module _ (frames : List (List ℕ)) (dom : ℕ) (edges : List Edge) (n m : ℕ) 
       let f = placedAll frames dom edges (cleared n m) in
       ap (mapOf s) (on conflicts f (all-placed a)) ∙ held s f
 
+  pub placed-entry :
+      placedAll frames dom edges (cleared n m) .outcome ≡ accepted →
+      (s : Span) (p : ℕ) → getD (mapOf s (placedAll frames dom edges (cleared n m))) p 0 ≡ expected frames dom s edges p
+  placed-entry a s p =
+      all frames dom s p edges (cleared n m) refl a ∙ ap (λ k. afterEdges frames dom s p k edges) (from-cleared s n m p)
+
 pub entries : Entries
 entries frames dom edges n m a s p =
     ap (λ xs. getD xs p 0) (placed-maps frames dom edges n m s a)
-    ∙ all frames dom s p edges (cleared n m) refl (all-placed frames dom edges n m a)
-    ∙ ap (λ k. afterEdges frames dom s p k edges) (from-cleared s n m p)
+    ∙ placed-entry frames dom edges n m (all-placed frames dom edges n m a) s p
 
 pub same-entries : SameEntries
 same-entries frames dom edges n m n′ m′ a a′ s p =

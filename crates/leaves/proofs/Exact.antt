@@ -46,7 +46,7 @@ kept-under Base Unsupported f e = refl
 kept-under Super Unsupported f e = refl
 
 module _ (frames : List (List ℕ)) (dom : ℕ) (s : Span) where
-  kept-one : (f : Filling) (e : Edge) → length (mapOf s (placed frames dom f e)) ≡ length (mapOf s f)
+  pub kept-one : (f : Filling) (e : Edge) → length (mapOf s (placed frames dom f e)) ≡ length (mapOf s f)
   unfolding placed
   kept-one f e = go (counts frames dom e)
     where
@@ -114,7 +114,7 @@ passes frames dom s edges xs short same =
 -- lent maps: row 2 let them by
 
 module _ (frames : List (List ℕ)) (dom : ℕ) (edges : List Edge) (base sup : List ℕ) where
-  fit : filled frames dom edges base sup .outcome ≡ accepted → first (lengthRows base sup) ≡ accepted
+  pub fit : filled frames dom edges base sup .outcome ≡ accepted → first (lengthRows base sup) ≡ accepted
   unfolding filled
   fit a = go (first (lengthRows base sup)) refl
     where
@@ -129,13 +129,13 @@ module _ (frames : List (List ℕ)) (dom : ℕ) (edges : List Edge) (base sup : 
           (sym (ap (λ (g : Filling). g .outcome) (off (λ g. filledInto frames dom edges (length base) (length sup)) f r e) ∙ e)
           ∙ a))
 
-  into :
+  pub into :
       filled frames dom edges base sup .outcome ≡ accepted →
       filled frames dom edges base sup ≡ filledInto frames dom edges (length base) (length sup)
   unfolding filled
   into a = on _ _ (fit a)
 
-  short : (s : Span) → first (lengthRows base sup) ≡ accepted → length (mapOf s (filling base sup accepted)) ≤ mapEntries
+  pub short : (s : Span) → first (lengthRows base sup) ≡ accepted → length (mapOf s (filling base sup accepted)) ≤ mapEntries
   unfolding lengthRows flatMap row2
   short Base a = ltb-false _ _ (test _ _ _ (both (row2 base) _ (none _ a) .0))
   short Super a = ltb-false _ _ (test _ _ _ (both (row2 sup) _ (both (row2 base) _ (none _ a) .1) .0))

@@ -1,5 +1,5 @@
 -- What edges grant: the entries of the filling, by the last edge into each frame; and where a refused filling stops.
-use Prim.Native.Nat.{ℕ}
+use Prim.Native.Nat.{ℕ, _≤_}
 use mathlib.Core.List.{List, _∷_, _++_}
 use mathlib.Core.Logic.{_⊎_}
 use mathlib.Core.Path.{_≡_}
@@ -7,6 +7,7 @@ use lib.ListN.{getD}
 use Rattle.edge.specs.declared.Edge.{Edge}
 use Rattle.exact.specs.Exact.{expected, exactRows}
 use Rattle.filling.specs.Filling.{mapOf, placed, placedAll, conflicts, cleared, filledInto, filled}
+use Rattle.layout.specs.Size.{entries as mapEntries}
 use Rattle.p2m.specs.declared.Span.{Span}
 use Rattle.refusal.specs.Table.{Row, accepted, refused, first}
 
@@ -25,6 +26,27 @@ SameEntries =
     filledInto frames dom edges n′ m′ .outcome ≡ accepted →
     (s : Span) (p : ℕ) →
     getD (mapOf s (filledInto frames dom edges n m)) p 0 ≡ getD (mapOf s (filledInto frames dom edges n′ m′)) p 0
+
+-- what is accepted into maps is accepted into longer ones
+abbrev pub LongerAccepts : Type 0
+LongerAccepts =
+    (frames : List (List ℕ)) (dom : ℕ) (edges : List Edge) (n m n′ m′ : ℕ) →
+    n ≤ n′ →
+    m ≤ m′ →
+    filledInto frames dom edges n m .outcome ≡ accepted → filledInto frames dom edges n′ m′ .outcome ≡ accepted
+
+-- where lent maps, of at most 512, were filled, maps of 512 can be, with the same entries
+pub record FilledWhole (frames : List (List ℕ)) (dom : ℕ) (edges : List Edge) (base sup : List ℕ) : Type 0 where
+  pub whole : filledInto frames dom edges mapEntries mapEntries .outcome ≡ accepted
+  pub same :
+      (s : Span) (p : ℕ) →
+      getD (mapOf s (filled frames dom edges base sup)) p 0
+      ≡ getD (mapOf s (filledInto frames dom edges mapEntries mapEntries)) p 0
+
+abbrev pub FillsWhole : Type 0
+FillsWhole =
+    (frames : List (List ℕ)) (dom : ℕ) (edges : List Edge) (base sup : List ℕ) →
+    filled frames dom edges base sup .outcome ≡ accepted → FilledWhole frames dom edges base sup
 
 -- lent maps that the filling accepted pass `check_exact`, for both spans
 abbrev pub FilledExact : Type 0

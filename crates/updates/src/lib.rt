@@ -1,0 +1,1 @@
+// What updates leave where they are cut: theorems alone.
