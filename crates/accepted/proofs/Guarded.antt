@@ -5,12 +5,14 @@ use mathlib.Core.List.{List, [], _∷_, flatMap}
 use mathlib.Core.Path.{_≡_}
 use lib.Dec.{eqb, leb}
 use lib.ListN.{length, getD}
-use borrow.Author.Tests.{ltb-false, leb-false, eqb-true, eqb-false, ne-eqb, not-false}
+use borrow.Author.Tests.{ltb-false, leb-false, eqb-true, eqb-false, eq-eqb, ne-eqb, not-false}
 use Rattle.layout.specs.Layout.{tablesOf}
+use Rattle.layout.specs.Size.{arenaLength}
+use Rattle.layout.specs.declared.Layout.{Layout}
 use Rattle.layout.specs.declared.Table.{Table}
 use Rattle.refusal.proofs.None.{none, accept, both, test, pairs-none, from-none}
 use Rattle.refusal.specs.All.{All, AllPairs}
-use Rattle.refusal.specs.Table.{eachFrom, pairs}
+use Rattle.refusal.specs.Table.{accepted, first, eachFrom, pairs}
 use Rattle.rows.specs.Rows.{row13, row14, guardRows, arenaGuardRows, row1, row2, row3, lengthRows, mapRows, refusalsAt}
 use Rattle.accepted.specs.Guarded.{Readable, GuardedFacts, ArenaGuardedFacts}
 use Rattle.accepted.proofs.Accepted.{accepted-facts}
@@ -57,9 +59,23 @@ guarded-facts limit base sup l e =
       backed = backed (l .«sup_frames») sup (both (eachFrom (row14 (l .«sup_frames»)) 0 sup) [] (r13 .1) .0);
     }
 
+module _ (limit : ℕ) (arena base sup : List ℕ) (l : Layout) where
+  -- row 1, and the others
+
+  length-let-by : first (arenaGuardRows limit arena base sup l) ≡ accepted → length arena ≡ arenaLength
+  unfolding arenaGuardRows row1 flatMap
+  length-let-by e = eqb-true _ _ (not-false _ (test _ _ _ (both (row1 arena) _ (none _ e) .0)))
+
+  pub maps-let-by : first (arenaGuardRows limit arena base sup l) ≡ accepted → first (guardRows limit base sup l) ≡ accepted
+  unfolding arenaGuardRows flatMap
+  maps-let-by e = accept _ (both (guardRows limit base sup l) [] (both (row1 arena) _ (none _ e) .1) .0)
+
+  pub arena-let-by :
+      length arena ≡ arenaLength →
+      first (guardRows limit base sup l) ≡ accepted → first (arenaGuardRows limit arena base sup l) ≡ accepted
+  unfolding arenaGuardRows row1 flatMap
+  arena-let-by e a = accept _ (rw (eq-eqb _ _ e, none _ a))
+
 pub arena-guarded-facts : ArenaGuardedFacts
-unfolding arenaGuardRows row1 flatMap
 arena-guarded-facts limit arena base sup l e =
-    let r1 = both (row1 arena) _ (none _ e) in
-    let rest = both (guardRows limit base sup l) [] (r1 .1) .0 in
-    (eqb-true _ _ (not-false _ (test _ _ _ (r1 .0))), guarded-facts limit base sup l (accept _ rest))
+    (length-let-by limit arena base sup l e, guarded-facts limit base sup l (maps-let-by limit arena base sup l e))

@@ -21,7 +21,7 @@ use Rattle.walks.proofs.Demand2.{reaches}
 use Rattle.walks.specs.Demand2.{addressesOf}
 use Rattle.window_reach.specs.Granted.{granted}
 use Rattle.updates.specs.Cuts.{targetFrom, wordAfter, WordByWord}
-use Rattle.updates.specs.Demand3.{Source, mapsOf, grantedFrom, Step, Cut, start, cutAfter, Premises, In, begun, to-begin, EachRead, Reader, theWalk, theManual, Concludes, CutAnywhere, Demand3}
+use Rattle.updates.specs.Demand3.{Source, mapsOf, grantedFrom, Step, Cut, cutAfter, Premises, In, begun, to-begin, EachRead, Reader, theWalk, theManual, Concludes, CutAnywhere, Demand3}
 use Rattle.updates.proofs.AfterStores.{zeroed, untouched, stored, from-halfway}
 use Rattle.updates.proofs.Granting.{base-entries, sup-entries, same-target, same-granted}
 use Rattle.updates.proofs.State.{Begun, Known, known-at}
@@ -116,7 +116,7 @@ same-words tables words words′ k k′ old s b b′ e e′ =
     all-target tables words k old s b e i low ∙ sym (all-target tables words′ k′ old s b′ e′ i low))
 
 module _
-    {A : Type 0} (r : Reader A) (law : Lawful r) (tables words : List ℕ) (steps : List Step) (p : Premises tables (start words) steps)
+    {A : Type 0} (r : Reader A) (law : Lawful r) (tables words : List ℕ) (steps : List Step) (p : Premises tables words steps)
     (old : List ℕ)
     (source : Source)
     (cut k : ℕ → ℕ)

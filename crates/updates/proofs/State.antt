@@ -16,7 +16,7 @@ use Rattle.update.proofs.Rows.{Stores, stores}
 use Rattle.update.specs.Step.{stepCount, placeOf, storedBy}
 use Rattle.walks.specs.Demand2.{addressesOf}
 use Rattle.updates.specs.Cuts.{wordAfter}
-use Rattle.updates.specs.Demand3.{Source, Step, Cut, start, answer, left, counted, after, cutAfter, FilledFrom, InOrder, begins, goes-on, Fair, Premises}
+use Rattle.updates.specs.Demand3.{Source, Step, Cut, start, answer, left, counted, after, cutAfter, FilledFrom, InOrder, begins, goes-on, EachStep, Fair, Premises}
 use Rattle.updates.proofs.AfterStores.{untouched, one-more}
 use Rattle.updates.proofs.Granting.{base-entries, sup-entries, same-target}
 
@@ -91,7 +91,7 @@ module _ (tables : List ℕ) (c : Cut) (s : Step) (known : Known tables c) (fair
       go (refused r) a = known
 
 pub known-from :
-    (tables : List ℕ) (steps : List Step) (c : Cut) → Known tables c → Premises tables c steps →
+    (tables : List ℕ) (steps : List Step) (c : Cut) → Known tables c → EachStep (λ d s. answer d s ≡ accepted → Fair tables d s) c steps →
     (n : ℕ) → Known tables (foldl after c (take n steps))
 known-from tables steps c known p zero = known
 known-from tables [] c known p (suc n) = known
@@ -99,6 +99,6 @@ known-from tables (s ∷ steps) c known p (suc n) =
     known-from tables steps (after c s) (known-after tables c s known (p .0)) (p .1) n
 
 pub known-at :
-    (tables words : List ℕ) (steps : List Step) → Premises tables (start words) steps →
+    (tables words : List ℕ) (steps : List Step) → Premises tables words steps →
     (n : ℕ) → Known tables (cutAfter words steps n)
 known-at tables words steps p n = known-from tables steps (start words) (λ s e. absurd (let z : _≡_ {A = ℕ} 0 1 = cc in omega arith)) p n

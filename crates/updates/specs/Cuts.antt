@@ -8,7 +8,7 @@ use Rattle.arena.specs.Encoded.{target}
 use Rattle.fields.specs.Named.{pick}
 use Rattle.layout.specs.Size.{arenaLength}
 use Rattle.update.specs.Step.{halfway, stepCount}
-use Rattle.updates.specs.Demand3.{Source, mapsOf, Step, start, cutAfter, Premises, In}
+use Rattle.updates.specs.Demand3.{Source, mapsOf, Step, cutAfter, Premises, In}
 
 abbrev pub targetFrom : Source → ℕ → ℕ
 targetFrom s i = target (s .layout) (mapsOf s .base) (mapsOf s .sup) i
@@ -22,7 +22,7 @@ wordAfter k old s i =
 abbrev pub WordByWord : Type 0
 WordByWord =
     (tables words : List ℕ) (steps : List Step) →
-    Premises tables (start words) steps →
+    Premises tables words steps →
     (old : List ℕ) (source : Source) (n k : ℕ) →
     In old source (cutAfter words steps n) k →
     (i : ℕ) → i < arenaLength → getD (cutAfter words steps n .words) i 0 ≡ wordAfter k old source i

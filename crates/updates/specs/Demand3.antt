@@ -84,16 +84,20 @@ pub data InOrder (c : Cut) (s : Step) : Type 0 where
   begins : s .number ≡ 0 → InOrder c s
   goes-on : s .number ≡ c .k → c .source ≡ some (s .source) → InOrder c s
 
+-- of each step, at the cut where it stands
+abbrev pub EachStep : (Cut → Step → Type 0) → Cut → List Step → Type 0
+EachStep P c [] = Unit
+EachStep P c (s ∷ ss) = P c s × EachStep P (after c s) ss
+
 -- what is asked of a step that stores; table addresses are the same through the whole list and in the walks
 pub record Fair (tables : List ℕ) (c : Cut) (s : Step) : Type 0 where
   pub maps : FilledFrom (s .source) (s .base) (s .sup)
   pub same-tables : addressesOf (s .source .layout) ≡ tables
   pub in-order : InOrder c s
 
--- and nothing of a refused one
-abbrev pub Premises : List ℕ → Cut → List Step → Type 0
-Premises tables c [] = Unit
-Premises tables c (s ∷ ss) = (answer c s ≡ accepted → Fair tables c s) × Premises tables (after c s) ss
+-- nothing is asked of a refused one
+abbrev pub Premises : List ℕ → List ℕ → List Step → Type 0
+Premises tables words steps = EachStep (λ c s. answer c s ≡ accepted → Fair tables c s) (start words) steps
 
 -- a cut of the update that found these words and has this source, after k stores; before its step 0, k is 0. Updates that agree in both are
 -- one here, so that more cuts belong to it than in document 01
@@ -128,7 +132,7 @@ pub record Concludes {A : Type 0} (k : ℕ → ℕ) (nothing answer old new : A)
 abbrev pub CutAnywhere : {A : Type 0} → Reader A → Type 0
 CutAnywhere reader =
     (tables words : List ℕ) (steps : List Step) →
-    Premises tables (start words) steps →
+    Premises tables words steps →
     (old : List ℕ) (source : Source) (cut k : ℕ → ℕ) →
     EachRead (λ r. In old source (cutAfter words steps (cut r)) (k r)) →
     (x : ℕ) →

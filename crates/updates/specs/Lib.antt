@@ -1,2 +1,5 @@
+pub mod Belonging
+pub mod Completing
 pub mod Cuts
 pub mod Demand3
+pub mod SceneS

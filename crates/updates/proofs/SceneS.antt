@@ -1,0 +1,68 @@
+-- S's maps are filled by computing; the rest are cases of the theorems.
+use Prim.Native.Nat.{ℕ}
+use mathlib.Core.Bool.{true}
+use mathlib.Core.List.{List, [], _∷_, flatMap, map}
+use mathlib.Core.Path.{_≡_, refl, sym, _∙_}
+use native.Mathlib.Omega.{arith}
+use lib.ListN.{length, replicate}
+use Rattle.accepted.proofs.Guarded.{maps-let-by}
+use Rattle.edge.specs.Edge.{owns, counts}
+use Rattle.filling.specs.Filling.{filling, putIn, placed, onward, placedAll, row17, conflicts, filledInto, filled}
+use Rattle.layout.specs.Layout.{layoutOf}
+use Rattle.layout.specs.Size.{outputLimit, arenaLength}
+use Rattle.perm.specs.declared.Perm.the-variants.{Rw}
+use Rattle.reach.specs.declared.Reached.the-variants.{Nothing}
+use Rattle.refusal.specs.Table.{accepted, first, eachFrom}
+use Rattle.rows.proofs.Examples as Rows
+use Rattle.rows.specs.Examples.{baseS, supS}
+use Rattle.rows.specs.Rows.{row2, lengthRows}
+use Rattle.update.specs.Step.{halfway}
+use Rattle.walks.specs.Demand2.{addressesOf}
+use Rattle.walks.specs.Tabled.{S, reach}
+use Rattle.window_reach.specs.Granted.{grantedBy, granted}
+use Rattle.updates.specs.Completing.{fullUpdate, AcceptedSource, Completes}
+use Rattle.updates.specs.Demand3.{mapsOf, grantedFrom, FilledFrom}
+use Rattle.updates.specs.SceneS.{sourceS, walkAfter, SceneS}
+use Rattle.updates.proofs.Completing.{updates-complete}
+use Rattle.updates.proofs.Demand3.{demand-3}
+use Rattle.updates.proofs.Granting.{base-entries, sup-entries, same-granted}
+
+fills : filled (sourceS .frames) 3 (sourceS .edges) (9 ∷ 9 ∷ []) (9 ∷ 9 ∷ 9 ∷ []) ≡ filling baseS supS accepted
+unfolding filled filledInto onward placedAll placed counts owns putIn conflicts row17 first eachFrom lengthRows row2 flatMap
+fills = refl
+
+from-S : FilledFrom sourceS baseS supS
+from-S = record { lent-base = 9 ∷ 9 ∷ []; lent-sup = 9 ∷ 9 ∷ 9 ∷ []; fills = fills }
+
+accepted-S : AcceptedSource (addressesOf S) sourceS baseS supS
+accepted-S =
+    record {
+      maps = from-S;
+      lets-by = maps-let-by outputLimit (replicate arenaLength 0) baseS supS S (Rows.examples .S);
+      same-tables = refl;
+    }
+
+granted-S : grantedFrom sourceS 0x8000_1234 ≡ reach 0x5000_1234 Rw true
+unfolding layoutOf grantedBy
+granted-S =
+    sym
+    (same-granted S baseS (mapsOf sourceS .base) supS (mapsOf sourceS .sup) (base-entries sourceS baseS supS from-S) (sup-entries sourceS baseS supS from-S) 0x8000_1234)
+    ∙ refl
+
+module _ (words : List ℕ) (long : length words ≡ arenaLength) where
+  completes : Completes (addressesOf S) words [] sourceS baseS supS
+  completes = updates-complete (addressesOf S) words [] long tt sourceS baseS supS accepted-S
+
+  half-way : walkAfter words halfway 0x8000_1234 ≡ Nothing
+  half-way =
+      demand-3 .walk (addressesOf S) words (fullUpdate sourceS baseS supS) (completes .premises) words sourceS (λ r. halfway) (λ r. halfway)
+      (λ r b. completes .cuts halfway (omega arith)) 0x8000_1234 .at-half-way (λ r b. refl)
+
+pub scene-S : SceneS
+scene-S =
+    record {
+      fills = fills;
+      completes = completes;
+      half-way = half-way;
+      last = λ words long. completes words long .walk 0x8000_1234 ∙ granted-S;
+    }
