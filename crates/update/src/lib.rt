@@ -11,7 +11,7 @@ ghost use Rattle.update.specs.Step.{stepCount, placeOf, storedBy, Steppi
 // Every word is zeroed, then every word is stored.
 const STEPS: usize = 2 * Layout::ARENA_LEN;
 
-// Rows 1 to 14, then 26, come before the one store.
+// Rows 1 to 14, then 26, come before the store, which is the only one.
 pub fn step(arena: &mut [u64], base: &[u8], sup: &[u8], l: Layout, n: u64) -> Verdict
     ensures { λ r. ⌜ Stepping l (now (base .entry)) (now (sup .entry)) n (now (arena .entry)) (outcomeOf r) (now (arena .exit)) ⌝ }
 {
@@ -45,8 +45,8 @@ fn stored_by(base: &[u8], sup: &[u8], l: Layout, n: usize) -> u64
     requires { ⌜ n < stepCount ⌝ }
     ensures { λ r. ⌜ r ≡ storedBy l (now (base .entry)) (now (sup .entry)) n ⌝ }
 {
-    if n < Layout::ARENA_LEN {
-        return 0;
+    if Layout::ARENA_LEN <= n {
+        return target_word::target_word(base, sup, l, STEPS - 1 - n);
     }
-    target_word::target_word(base, sup, l, STEPS - 1 - n)
+    0
 }

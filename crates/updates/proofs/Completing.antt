@@ -92,9 +92,10 @@ module _ (tables : List ℕ) (s : Source) (base sup : List ℕ) (ok : AcceptedSo
     unfolding stepsFrom
     goes zero n c pos sum g = tt
     goes (suc count) n c pos sum g =
-        let few : n < stepCount = omega (arith, sum) in
-        ((stores n c few (g .long), record { maps = ok .maps; same-tables = ok .same-tables; in-order = goes-on (sym (g .k)) (g .source) }),
-        goes count (suc n) (after c (step n)) (omega arith) (omega (arith, sum)) (next-step old c n pos few g))
+        let few : n < stepCount = omega (arith, sum) in (
+          (stores n c few (g .long), record { maps = ok .maps; same-tables = ok .same-tables; in-order = goes-on (sym (g .k)) (g .source) }),
+          goes count (suc n) (after c (step n)) (omega arith) (omega (arith, sum)) (next-step old c n pos few g),
+        )
 
     reached :
         (m count n : ℕ) (c : Cut) → 0 < n → n + count ≡ stepCount → m ≤ count → Going old c n →
@@ -112,9 +113,10 @@ module _ (tables : List ℕ) (s : Source) (base sup : List ℕ) (ok : AcceptedSo
     all-store : (count : ℕ) → count ≡ stepCount → EachStep Stores c (stepsFrom s base sup 0 count)
     unfolding stepsFrom
     all-store zero e = tt
-    all-store (suc count) e =
-        ((stores 0 c (omega arith) long, record { maps = ok .maps; same-tables = ok .same-tables; in-order = begins refl }),
-        goes (c .words) count 1 (after c (step 0)) (omega arith) (omega (arith, e)) (first-step c long))
+    all-store (suc count) e = (
+      (stores 0 c (omega arith) long, record { maps = ok .maps; same-tables = ok .same-tables; in-order = begins refl }),
+      goes (c .words) count 1 (after c (step 0)) (omega arith) (omega (arith, e)) (first-step c long),
+    )
 
     within :
         (count : ℕ) → count ≡ stepCount → (m : ℕ) → m ≤ count →

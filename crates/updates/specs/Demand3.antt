@@ -62,7 +62,8 @@ left o c s = leftBy o (s .source .layout) (s .base) (s .sup) (s .number) (c .wor
 
 -- a refused step stores nothing and doesn't count; of those that store, number 0 begins an update
 abbrev pub counted : Outcome → Bool → Cut → Step → Cut
-counted (refused r) begins c s = c
+counted (refused r) begins c s =
+    record { words = left (refused r) c s; k = c .k; old = c .old; source = c .source }
 counted accepted true c s = record { words = left accepted c s; k = 1; old = c .words; source = some (s .source) }
 counted accepted false c s = record { words = left accepted c s; k = suc (c .k); old = c .old; source = c .source }
 
@@ -105,7 +106,7 @@ pub data In (old : List ℕ) (source : Source) (c : Cut) : ℕ → Type 0 where
   begun : c .old ≡ old → c .source ≡ some source → In old source c (c .k)
   to-begin : c .words ≡ old → In old source c 0
 
--- the reads of a walk, by the levels left below them
+-- the reads of a walk, by the levels left below them: 2, 1 and 0
 abbrev pub EachRead : (ℕ → Type 0) → Type 0
 EachRead P = (left : ℕ) → left < 3 → P left
 
