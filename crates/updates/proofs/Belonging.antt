@@ -12,23 +12,23 @@ use borrow.Author.Tests.{eq-eqb, ne-eqb}
 use Rattle.refusal.proofs.None.{refused≢accepted}
 use Rattle.refusal.specs.Table.{Outcome, accepted, refused}
 use Rattle.updates.specs.Belonging.{counting, storesOf, NoneStores, found, Update, whole, Belong, CutsBelong, BeforeAny}
-use Rattle.updates.specs.Demand3.{Source, Step, Cut, start, answer, left, counted, after, cutAfter, EachStep, In, begun, to-begin}
+use Rattle.updates.specs.Demand3.{Source, Step, Cut, start, stepOutcome, wordsLeft, counted, after, cutAfter, EachStep, In, begun, to-begin}
 
 -- what a step makes of a cut, by its answer and number
 
-pub unchanged : (c : Cut) (s : Step) → (answer c s ≡ accepted → ⊥) → after c s ≡ c
+pub unchanged : (c : Cut) (s : Step) → (stepOutcome c s ≡ accepted → ⊥) → after c s ≡ c
 unfolding after
-unchanged c s ne = go (answer c s) refl
+unchanged c s ne = go (stepOutcome c s) refl
   where
-    go : (o : Outcome) → answer c s ≡ o → counted o (eqb (s .number) 0) c s ≡ c
+    go : (o : Outcome) → stepOutcome c s ≡ o → counted o (eqb (s .number) 0) c s ≡ c
     go accepted e = absurd (ne e)
     go (refused r) e = refl
 
-pub beginning : (c : Cut) (s : Step) → answer c s ≡ accepted → s .number ≡ 0 → after c s ≡ counted accepted true c s
+pub beginning : (c : Cut) (s : Step) → stepOutcome c s ≡ accepted → s .number ≡ 0 → after c s ≡ counted accepted true c s
 unfolding after
 beginning c s a z = rw (a, eq-eqb _ _ z)
 
-pub going-on : (c : Cut) (s : Step) → answer c s ≡ accepted → (s .number ≡ 0 → ⊥) → after c s ≡ counted accepted false c s
+pub going-on : (c : Cut) (s : Step) → stepOutcome c s ≡ accepted → (s .number ≡ 0 → ⊥) → after c s ≡ counted accepted false c s
 unfolding after
 going-on c s a ne = rw (a, ne-eqb _ _ ne)
 
@@ -58,11 +58,11 @@ then c d e m n total p q sum =
     record { old = q .old ∙ p .old; source = q .source ∙ p .source; k = omega (arith, p .k, q .k, sum) }
 
 onward :
-    (steps : List Step) (c : Cut) → EachStep (λ d s. answer d s ≡ accepted → s .number ≡ 0 → ⊥) c steps →
+    (steps : List Step) (c : Cut) → EachStep (λ d s. stepOutcome d s ≡ accepted → s .number ≡ 0 → ⊥) c steps →
     (n : ℕ) → On c (foldl after c (take n steps)) (storesOf c (take n steps))
 onward steps c alone zero = record { old = refl; source = refl; k = omega arith }
 onward [] c alone (suc n) = record { old = refl; source = refl; k = omega arith }
-onward (s ∷ steps) c alone (suc n) = go (answer c s) refl (onward steps (after c s) (alone .1) n)
+onward (s ∷ steps) c alone (suc n) = go (stepOutcome c s) refl (onward steps (after c s) (alone .1) n)
   where
     end : Cut
     end = foldl after (after c s) (take n steps)
@@ -70,7 +70,7 @@ onward (s ∷ steps) c alone (suc n) = go (answer c s) refl (onward steps (after
     m : ℕ
     m = storesOf (after c s) (take n steps)
 
-    go : (o : Outcome) → answer c s ≡ o → On (after c s) end m → On c end (counting o m)
+    go : (o : Outcome) → stepOutcome c s ≡ o → On (after c s) end m → On c end (counting o m)
     go accepted e on =
         then c (after c s) end 1 m (suc m)
         (subst (λ d. On c d 1) (sym (going-on c s e (alone .0 e))) (record { old = refl; source = refl; k = omega arith }))

@@ -14,14 +14,14 @@ use Rattle.refusal.specs.Table.{Outcome, accepted, refused}
 use Rattle.update.proofs.Rows.{stored}
 use Rattle.update.specs.Step.{stepCount}
 use Rattle.updates.specs.Completing.{stepsFrom, fullUpdate, AcceptedSource, continued, Completes, UpdatesComplete}
-use Rattle.updates.specs.Demand3.{Source, Step, Cut, start, answer, counted, after, cutAfter, begins, goes-on, EachStep, Fair, Premises, In, begun, to-begin, EachRead}
+use Rattle.updates.specs.Demand3.{Source, Step, Cut, start, stepOutcome, counted, after, cutAfter, begins, goes-on, EachStep, Fair, Premises, In, begun, to-begin, EachRead}
 use Rattle.updates.proofs.Belonging.{beginning, going-on, cut-in}
 use Rattle.updates.proofs.Demand3.{demand-3}
 
 -- no step changes the length
 same-length : (c : Cut) (s : Step) → length (after c s .words) ≡ length (c .words)
 unfolding after
-same-length c s = go (answer c s) (eqb (s .number) 0)
+same-length c s = go (stepOutcome c s) (eqb (s .number) 0)
   where
     go : (o : Outcome) (b : Bool) → length (counted o b c s .words) ≡ length (c .words)
     go accepted true = length-set (c .words) _ _
@@ -50,10 +50,10 @@ module _ (tables : List ℕ) (s : Source) (base sup : List ℕ) (ok : AcceptedSo
   step n = record { number = n; source = s; base = base; sup = sup }
 
   abbrev Stores : Cut → Step → Type 0
-  Stores c t = (answer c t ≡ accepted) × Fair tables c t
+  Stores c t = (stepOutcome c t ≡ accepted) × Fair tables c t
 
-  stores : (n : ℕ) (c : Cut) → n < stepCount → length (c .words) ≡ arenaLength → answer c (step n) ≡ accepted
-  unfolding answer
+  stores : (n : ℕ) (c : Cut) → n < stepCount → length (c .words) ≡ arenaLength → stepOutcome c (step n) ≡ accepted
+  unfolding stepOutcome
   stores n c few long =
       stored (s .layout) base sup n (c .words)
       (record { guarded = arena-let-by outputLimit (c .words) base sup (s .layout) long (ok .lets-by); number = few })
@@ -133,7 +133,7 @@ module _ (tables : List ℕ) (s : Source) (base sup : List ℕ) (ok : AcceptedSo
 pub updates-complete : UpdatesComplete
 updates-complete tables words steps long p s base sup ok =
     record {
-      never-refused = each-map _ (λ c t. answer c t ≡ accepted) (λ c t q. q .0) (fullUpdate s base sup) last stored-all;
+      never-refused = each-map _ (λ c t. stepOutcome c t ≡ accepted) (λ c t q. q .0) (fullUpdate s base sup) last stored-all;
       premises = p′;
       cuts = cuts;
       walk = λ x. demand-3 .walk tables words all p′ (last .words) s (λ r. end) (λ r. stepCount) ended x .after-the-last (λ r b. refl);
@@ -154,14 +154,14 @@ updates-complete tables words steps long p s base sup ok =
     long-last : length (last .words) ≡ arenaLength
     long-last = same-lengths (take (length steps) steps) (start words) ∙ long
 
-    stored-all : EachStep (λ c t. (answer c t ≡ accepted) × Fair tables c t) last (fullUpdate s base sup)
+    stored-all : EachStep (λ c t. (stepOutcome c t ≡ accepted) × Fair tables c t) last (fullUpdate s base sup)
     stored-all = all-store tables s base sup ok last long-last stepCount refl
 
     p′ : Premises tables words all
     p′ =
         each-append _ steps (fullUpdate s base sup) (start words) p
-        (subst (λ xs. EachStep (λ c t. answer c t ≡ accepted → Fair tables c t) (foldl after (start words) xs) (fullUpdate s base sup)) (take-length steps)
-        (each-map _ (λ c t. answer c t ≡ accepted → Fair tables c t) (λ c t q e. q .1) (fullUpdate s base sup) last stored-all))
+        (subst (λ xs. EachStep (λ c t. stepOutcome c t ≡ accepted → Fair tables c t) (foldl after (start words) xs) (fullUpdate s base sup)) (take-length steps)
+        (each-map _ (λ c t. stepOutcome c t ≡ accepted → Fair tables c t) (λ c t q e. q .1) (fullUpdate s base sup) last stored-all))
 
     cuts : (n : ℕ) → n ≤ stepCount → In (last .words) s (cutAfter words all (length steps + n)) n
     cuts n h =

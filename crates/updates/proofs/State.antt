@@ -16,7 +16,7 @@ use Rattle.update.proofs.Rows.{Stores, stores}
 use Rattle.update.specs.Step.{stepCount, placeOf, storedBy}
 use Rattle.walks.specs.Demand2.{addressesOf}
 use Rattle.updates.specs.Cuts.{wordAfter}
-use Rattle.updates.specs.Demand3.{Source, Step, Cut, start, answer, left, counted, after, cutAfter, FilledFrom, InOrder, begins, goes-on, EachStep, Fair, Premises}
+use Rattle.updates.specs.Demand3.{Source, Step, Cut, start, stepOutcome, wordsLeft, counted, after, cutAfter, FilledFrom, InOrder, begins, goes-on, EachStep, Fair, Premises}
 use Rattle.updates.proofs.AfterStores.{untouched, one-more}
 use Rattle.updates.proofs.Granting.{base-entries, sup-entries, same-target}
 
@@ -33,14 +33,14 @@ pub record Begun (tables words : List ℕ) (k : ℕ) (old : List ℕ) (s : Sourc
 abbrev pub Known : List ℕ → Cut → Type 0
 Known tables c = (s : Source) → c .source ≡ some s → Begun tables (c .words) (c .k) (c .old) s
 
-module _ (tables : List ℕ) (c : Cut) (s : Step) (a : answer c s ≡ accepted) (f : Fair tables c s) where
+module _ (tables : List ℕ) (c : Cut) (s : Step) (a : stepOutcome c s ≡ accepted) (f : Fair tables c s) where
   lets-by : Stores (s .source .layout) (s .base) (s .sup) (s .number) (c .words)
-  unfolding answer
+  unfolding stepOutcome
   lets-by = stores (s .source .layout) (s .base) (s .sup) (s .number) (c .words) a
 
   -- the cut after a store that is the k-th of an update
   module _ (k : ℕ) (old : List ℕ) (number : s .number ≡ k) (here : (i : ℕ) → i < arenaLength → getD (c .words) i 0 ≡ wordAfter k old (s .source) i) where
-    stored : Begun tables (left accepted c s) (suc k) old (s .source)
+    stored : Begun tables (wordsLeft accepted c s) (suc k) old (s .source)
     stored =
         let facts = arena-guarded-facts outputLimit (c .words) (s .base) (s .sup) (s .source .layout) (lets-by .guarded) in
         let fits : k < stepCount = subst (λ (n : ℕ). n < stepCount) number (lets-by .number) in
@@ -64,34 +64,34 @@ some-same : {a b : Source} → some a ≡ some b → a ≡ b
 some-same e = cc
 
 -- a step keeps what is known
-module _ (tables : List ℕ) (c : Cut) (s : Step) (known : Known tables c) (fair : answer c s ≡ accepted → Fair tables c s) where
-  begun-by : answer c s ≡ accepted → s .number ≡ 0 → Known tables (counted accepted true c s)
+module _ (tables : List ℕ) (c : Cut) (s : Step) (known : Known tables c) (fair : stepOutcome c s ≡ accepted → Fair tables c s) where
+  begun-by : stepOutcome c s ≡ accepted → s .number ≡ 0 → Known tables (counted accepted true c s)
   begun-by a z t e =
-      subst (Begun tables (left accepted c s) 1 (c .words)) (some-same e)
+      subst (Begun tables (wordsLeft accepted c s) 1 (c .words)) (some-same e)
       (stored tables c s a (fair a) 0 (c .words) z
       (λ i h. sym (untouched 0 (c .words) (s .source) i (omega arith) (omega arith))))
 
-  gone-on : answer c s ≡ accepted → (s .number ≡ 0 → ⊥) → InOrder c s → Known tables (counted accepted false c s)
+  gone-on : stepOutcome c s ≡ accepted → (s .number ≡ 0 → ⊥) → InOrder c s → Known tables (counted accepted false c s)
   gone-on a ne (begins z) t e = absurd (ne z)
   gone-on a ne (goes-on number source) t e =
       let now = known (s .source) source in
-      subst (Begun tables (left accepted c s) (suc (c .k)) (c .old)) (some-same (sym source ∙ e))
+      subst (Begun tables (wordsLeft accepted c s) (suc (c .k)) (c .old)) (some-same (sym source ∙ e))
       (stored tables c s a (fair a) (c .k) (c .old) number (now .word))
 
   pub known-after : Known tables (after c s)
   unfolding after
-  known-after = go (answer c s) refl
+  known-after = go (stepOutcome c s) refl
     where
-      by-number : (b : Bool) → answer c s ≡ accepted → eqb (s .number) 0 ≡ b → Known tables (counted accepted b c s)
+      by-number : (b : Bool) → stepOutcome c s ≡ accepted → eqb (s .number) 0 ≡ b → Known tables (counted accepted b c s)
       by-number true a e = begun-by a (eqb-true _ _ e)
       by-number false a e = gone-on a (eqb-false _ _ e) (fair a .in-order)
 
-      go : (o : Outcome) → answer c s ≡ o → Known tables (counted o (eqb (s .number) 0) c s)
+      go : (o : Outcome) → stepOutcome c s ≡ o → Known tables (counted o (eqb (s .number) 0) c s)
       go accepted a = by-number (eqb (s .number) 0) a refl
       go (refused r) a = known
 
 pub known-from :
-    (tables : List ℕ) (steps : List Step) (c : Cut) → Known tables c → EachStep (λ d s. answer d s ≡ accepted → Fair tables d s) c steps →
+    (tables : List ℕ) (steps : List Step) (c : Cut) → Known tables c → EachStep (λ d s. stepOutcome d s ≡ accepted → Fair tables d s) c steps →
     (n : ℕ) → Known tables (foldl after c (take n steps))
 known-from tables steps c known p zero = known
 known-from tables [] c known p (suc n) = known

@@ -4,7 +4,7 @@ use mathlib.Core.List.{List, [], _∷_, _++_}
 use mathlib.Core.Path.{_≡_}
 use lib.ListN.{length, take}
 use Rattle.refusal.specs.Table.{Outcome, accepted, refused}
-use Rattle.updates.specs.Demand3.{Source, Step, Cut, start, answer, after, cutAfter, EachStep, In}
+use Rattle.updates.specs.Demand3.{Source, Step, Cut, start, stepOutcome, after, cutAfter, EachStep, In}
 
 -- how many of the steps store
 abbrev pub counting : Outcome → ℕ → ℕ
@@ -13,10 +13,10 @@ counting (refused r) n = n
 
 abbrev pub storesOf : Cut → List Step → ℕ
 storesOf c [] = 0
-storesOf c (s ∷ ss) = counting (answer c s) (storesOf (after c s) ss)
+storesOf c (s ∷ ss) = counting (stepOutcome c s) (storesOf (after c s) ss)
 
 abbrev pub NoneStores : Cut → List Step → Type 0
-NoneStores c steps = EachStep (λ d s. answer d s ≡ accepted → ⊥) c steps
+NoneStores c steps = EachStep (λ d s. stepOutcome d s ≡ accepted → ⊥) c steps
 
 -- an update in a list of steps: its step 0 stores; none before it does, back to an earlier one or to the list's start; and of those after it
 -- none that stores has number 0
@@ -27,8 +27,8 @@ module _ (words : List ℕ) (before idle : List Step) (zeroth : Step) (rest : Li
   pub record Update : Type 0 where
     pub none-stores : NoneStores (cutAfter words before (length before)) idle
     pub number : zeroth .number ≡ 0
-    pub stores : answer found zeroth ≡ accepted
-    pub no-other : EachStep (λ d s. answer d s ≡ accepted → s .number ≡ 0 → ⊥) (after found zeroth) rest
+    pub stores : stepOutcome found zeroth ≡ accepted
+    pub no-other : EachStep (λ d s. stepOutcome d s ≡ accepted → s .number ≡ 0 → ⊥) (after found zeroth) rest
 
   module _ (later : List Step) where
     abbrev pub whole : List Step

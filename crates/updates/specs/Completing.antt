@@ -11,7 +11,7 @@ use Rattle.update.specs.Step.{stepCount}
 use Rattle.walk.specs.Descent.{wordsOf}
 use Rattle.walk.specs.Walk.{walkOf}
 use Rattle.walks.specs.Demand2.{addressesOf}
-use Rattle.updates.specs.Demand3.{Source, grantedFrom, Step, answer, cutAfter, FilledFrom, EachStep, Premises, In}
+use Rattle.updates.specs.Demand3.{Source, grantedFrom, Step, stepOutcome, cutAfter, FilledFrom, EachStep, Premises, In}
 
 -- steps n and on, so many, to one source with two maps
 unfoldable pub stepsFrom : Source → List ℕ → List ℕ → ℕ → ℕ → List Step
@@ -35,7 +35,7 @@ module _ (tables words : List ℕ) (steps : List Step) (s : Source) (base sup : 
 
   pub record Completes : Type 0 where
     pub never-refused :
-        EachStep (λ c t. answer c t ≡ accepted) (cutAfter words steps (length steps)) (fullUpdate s base sup)
+        EachStep (λ c t. stepOutcome c t ≡ accepted) (cutAfter words steps (length steps)) (fullUpdate s base sup)
     pub premises : Premises tables words continued
     pub cuts :
         (n : ℕ) → n ≤ stepCount → In (cutAfter words steps (length steps) .words) s (cutAfter words continued (length steps + n)) n

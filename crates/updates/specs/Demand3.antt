@@ -1,4 +1,7 @@
--- Demand 3, by document 01 ("Update"): one claim about every list of update steps, cut anywhere.
+-- Demand 3, by document 01 ("Update"): one claim about every list of update steps on one arena, refused ones included, from any words, for
+-- every address and wherever the list is cut. Up to an update's half-way store a walk gives its answer over the words found when that update
+-- began, or nothing; after it the answer that permission edges, image and device windows grant, or nothing. At half-way it gives nothing.
+-- After the last store it gives the granted answer at every address, and so too when a cut update is begun again.
 use Prim.Native.Nat.{ℕ, suc, _≤_, _<_}
 use mathlib.Core.Bool.{Bool, true, false}
 use mathlib.Core.List.{List, [], _∷_, foldl}
@@ -54,21 +57,21 @@ abbrev pub start : List ℕ → Cut
 start words = record { words = words; k = 0; old = words; source = none }
 
 -- each step gets the words that the last one left
-unfoldable pub answer : Cut → Step → Outcome
-answer c s = first (stepRows (s .source .layout) (s .base) (s .sup) (s .number) (c .words))
+unfoldable pub stepOutcome : Cut → Step → Outcome
+stepOutcome c s = first (stepRows (s .source .layout) (s .base) (s .sup) (s .number) (c .words))
 
-abbrev pub left : Outcome → Cut → Step → List ℕ
-left o c s = leftBy o (s .source .layout) (s .base) (s .sup) (s .number) (c .words)
+abbrev pub wordsLeft : Outcome → Cut → Step → List ℕ
+wordsLeft o c s = leftBy o (s .source .layout) (s .base) (s .sup) (s .number) (c .words)
 
 -- a refused step stores nothing and doesn't count; of those that store, number 0 begins an update
 abbrev pub counted : Outcome → Bool → Cut → Step → Cut
 counted (refused r) begins c s =
-    record { words = left (refused r) c s; k = c .k; old = c .old; source = c .source }
-counted accepted true c s = record { words = left accepted c s; k = 1; old = c .words; source = some (s .source) }
-counted accepted false c s = record { words = left accepted c s; k = suc (c .k); old = c .old; source = c .source }
+    record { words = wordsLeft (refused r) c s; k = c .k; old = c .old; source = c .source }
+counted accepted true c s = record { words = wordsLeft accepted c s; k = 1; old = c .words; source = some (s .source) }
+counted accepted false c s = record { words = wordsLeft accepted c s; k = suc (c .k); old = c .old; source = c .source }
 
 unfoldable pub after : Cut → Step → Cut
-after c s = counted (answer c s) (eqb (s .number) 0) c s
+after c s = counted (stepOutcome c s) (eqb (s .number) 0) c s
 
 -- the cut after so many steps of the list
 abbrev pub cutAfter : List ℕ → List Step → ℕ → Cut
@@ -98,7 +101,7 @@ pub record Fair (tables : List ℕ) (c : Cut) (s : Step) : Type 0 where
 
 -- nothing is asked of a refused one
 abbrev pub Premises : List ℕ → List ℕ → List Step → Type 0
-Premises tables words steps = EachStep (λ c s. answer c s ≡ accepted → Fair tables c s) (start words) steps
+Premises tables words steps = EachStep (λ c s. stepOutcome c s ≡ accepted → Fair tables c s) (start words) steps
 
 -- a cut of the update that found these words and has this source, after k stores; before its step 0, k is 0. Updates that agree in both are
 -- one here, so that more cuts belong to it than in document 01
@@ -108,7 +111,7 @@ pub data In (old : List ℕ) (source : Source) (c : Cut) : ℕ → Type 0 where
 
 -- the reads of a walk, by the levels left below them: 2, 1 and 0
 abbrev pub EachRead : (ℕ → Type 0) → Type 0
-EachRead P = (left : ℕ) → left < 3 → P left
+EachRead P = (r : ℕ) → r < 3 → P r
 
 -- how tables are read: the answer over the words that each read sees, and what it is where nothing or a granted answer is reached
 pub record Reader (A : Type 0) : Type 0 where
