@@ -22,7 +22,7 @@ use Rattle.p2m.specs.declared.Span.the-variants.{Base, Super}
 use Rattle.p2m.specs.declared.TableSpan.{TableSpan}
 use Rattle.p2m.specs.declared.TableSpan.the-variants.{Leaves, Unsupported}
 use Rattle.refusal.proofs.None.{none, accept, from-none, from-nowhere, refused≢accepted}
-use Rattle.refusal.specs.Table.{row, accepted, refused, first, refuseIf}
+use Rattle.refusal.specs.Table.{accepted, refused, refuseIf}
 use Rattle.leaves.specs.Entries.{LongerAccepts, FillsWhole}
 use Rattle.leaves.proofs.Entries.{putBy, accepted-before, all-placed, placed-entry, same-entries}
 use Rattle.leaves.proofs.Exact.{kept-one, fit, into, short}

@@ -2,7 +2,7 @@
 use Prim.Native.Nat.{ℕ, suc, _+_, _-_, _≤_, _<_}
 use mathlib.Core.Bool.{Bool, true, false}
 use mathlib.Core.List.{List}
-use mathlib.Core.Logic.{_⊎_, inl, inr}
+use mathlib.Core.Logic.{inl, inr}
 use mathlib.Core.Path.{_≡_, refl, sym, ap, subst, _∙_}
 use native.Mathlib.Omega.{arith}
 use lib.Dec.{eqb, leb, ltb}
@@ -15,6 +15,7 @@ use Rattle.layout.specs.Size.{arenaLength}
 use Rattle.update.specs.Step.{halfway, stepCount, placeOf, storedBy}
 use Rattle.updates.specs.Cuts.{targetFrom, wordAfter}
 use Rattle.updates.specs.Demand3.{Source}
+use Rattle.updates.proofs.Torn.{Either}
 
 module _ (k : ℕ) (old : List ℕ) (s : Source) (i : ℕ) where
   pub zeroed : k ≤ halfway → i < k → wordAfter k old s i ≡ 0
@@ -34,12 +35,12 @@ module _ (k : ℕ) (old : List ℕ) (s : Source) (i : ℕ) where
   awaited h b = let c : i < stepCount - k = omega arith in rw (lt-leb _ _ h, lt-leb _ _ c)
 
   -- past half-way, and there
-  pub from-halfway : halfway ≤ k → i < arenaLength → (wordAfter k old s i ≡ targetFrom s i) ⊎ (wordAfter k old s i ≡ 0)
+  pub from-halfway : halfway ≤ k → i < arenaLength → Either (wordAfter k old s i) (targetFrom s i) 0
   from-halfway h b = go (leb k halfway) (leb stepCount (i + k)) refl refl
     where
       go :
           (c d : Bool) → leb k halfway ≡ c → leb stepCount (i + k) ≡ d →
-          (wordAfter k old s i ≡ targetFrom s i) ⊎ (wordAfter k old s i ≡ 0)
+          Either (wordAfter k old s i) (targetFrom s i) 0
       go true d p q = let e = leb-true _ _ p in inr (zeroed e (omega arith))
       go false true p q = inl (stored (leb-false _ _ p) (leb-true _ _ q))
       go false false p q = inr (awaited (leb-false _ _ p) (leb-false _ _ q))

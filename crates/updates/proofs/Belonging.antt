@@ -1,8 +1,7 @@
 -- The cuts of an update: refused steps leave the cut as it is, and of the others only number 0 begins one anew.
 use Prim.Native.Nat.{ℕ, zero, suc, _+_, _≤_}
-use mathlib.Core.Bool.{Bool, true, false}
+use mathlib.Core.Bool.{true, false}
 use mathlib.Core.List.{List, [], _∷_, _++_, foldl, foldl-append}
-use mathlib.Core.Option.{some}
 use mathlib.Core.Path.{_≡_, refl, sym, ap, subst, _∙_}
 use native.Mathlib.Omega.{arith}
 use lib.Dec.{eqb}
@@ -11,8 +10,8 @@ use lib.Seq.{take-length, take-append-le, take-append-add}
 use borrow.Author.Tests.{eq-eqb, ne-eqb}
 use Rattle.refusal.proofs.None.{refused≢accepted}
 use Rattle.refusal.specs.Table.{Outcome, accepted, refused}
-use Rattle.updates.specs.Belonging.{counting, storesOf, NoneStores, found, Update, whole, Belong, CutsBelong, BeforeAny}
-use Rattle.updates.specs.Demand3.{Source, Step, Cut, start, stepOutcome, wordsLeft, counted, after, cutAfter, EachStep, In, begun, to-begin}
+use Rattle.updates.specs.Belonging.{counting, storesOf, NoneStores, found, Update, whole, CutsBelong, BeforeAny}
+use Rattle.updates.specs.Demand3.{Step, Cut, start, stepOutcome, counted, after, cutAfter, EachStep, In, begun, to-begin}
 
 -- what a step makes of a cut, by its answer and number
 

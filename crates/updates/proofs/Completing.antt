@@ -13,7 +13,7 @@ use Rattle.layout.specs.Size.{outputLimit, arenaLength}
 use Rattle.refusal.specs.Table.{Outcome, accepted, refused}
 use Rattle.update.proofs.Rows.{stored}
 use Rattle.update.specs.Step.{stepCount}
-use Rattle.updates.specs.Completing.{stepsFrom, fullUpdate, AcceptedSource, continued, Completes, UpdatesComplete}
+use Rattle.updates.specs.Completing.{stepsFrom, fullUpdate, AcceptedSource, continued, UpdatesComplete}
 use Rattle.updates.specs.Demand3.{Source, Step, Cut, start, stepOutcome, counted, after, cutAfter, begins, goes-on, EachStep, Fair, Premises, In, begun, to-begin, EachRead}
 use Rattle.updates.proofs.Belonging.{beginning, going-on, cut-in}
 use Rattle.updates.proofs.Demand3.{demand-3}

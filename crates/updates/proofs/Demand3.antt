@@ -2,48 +2,26 @@
 -- nothing.
 use Prim.Native.Nat.{ℕ, _≤_, _<_}
 use mathlib.Core.Bool.{Bool, true, false}
-use mathlib.Core.List.{List, _∷_}
-use mathlib.Core.Logic.{_⊎_, inl, inr}
-use mathlib.Core.Path.{_≡_, refl, sym, ap, subst, fun-ext, _∙_}
+use mathlib.Core.List.{List}
+use mathlib.Core.Logic.{inl, inr}
+use mathlib.Core.Path.{_≡_, refl, sym, ap, subst, _∙_}
 use native.Mathlib.Omega.{arith}
 use lib.Dec.{ltb}
 use lib.ListN.{length, getD, List·getD-eq-default}
 use lib.Seq.{ext-getD}
 use borrow.Author.Tests.{ltb-true, ltb-false}
-use Rattle.accepted.specs.Guarded.{Guarded}
 use Rattle.arena.specs.Encoded.{target}
-use Rattle.layout.specs.Size.{outputLimit, arenaLength}
-use Rattle.layout.specs.declared.Layout.{Layout}
-use Rattle.manual.specs.Translation.{Machine, Access}
+use Rattle.layout.specs.Size.{arenaLength}
 use Rattle.update.specs.Step.{halfway, stepCount}
 use Rattle.walk.specs.Descent.{Words, wordsOf}
-use Rattle.walks.proofs.Demand2.{reaches}
-use Rattle.walks.specs.Demand2.{addressesOf}
 use Rattle.window_reach.specs.Granted.{granted}
 use Rattle.updates.specs.Cuts.{targetFrom, wordAfter, WordByWord}
-use Rattle.updates.specs.Demand3.{Source, mapsOf, grantedFrom, Step, Cut, cutAfter, Premises, In, begun, to-begin, EachRead, Reader, theWalk, theManual, Concludes, CutAnywhere, Demand3}
+use Rattle.updates.specs.Demand3.{Source, mapsOf, grantedFrom, Step, Cut, cutAfter, Premises, In, begun, to-begin, EachRead, Reader, theWalk, theManual, Concludes, Demand3}
 use Rattle.updates.proofs.AfterStores.{zeroed, untouched, stored, from-halfway}
 use Rattle.updates.proofs.Granting.{base-entries, sup-entries, same-target, same-granted}
+use Rattle.updates.proofs.Lawful.{Lawful, walk-lawful, manual-lawful}
 use Rattle.updates.proofs.State.{Begun, Known, known-at}
-use Rattle.updates.proofs.Torn.{Torn, walk-torn, walk-same, walk-zeros, manual-torn, manual-same, manual-zeros}
-
--- what is used of a reader
-pub record Lawful {A : Type 0} (r : Reader A) : Type 0 where
-  pub torn :
-      (tables : List ℕ) (ws : ℕ → Words) (whole : Words) (x : ℕ) →
-      EachRead (λ n. Torn (ws n) whole) →
-      (r .reads tables ws x ≡ r .reads tables (λ n. whole) x) ⊎ (r .reads tables ws x ≡ r .nothing)
-  pub same :
-      (tables : List ℕ) (ws : ℕ → Words) (whole : Words) (x : ℕ) →
-      EachRead (λ n. ws n ≡ whole) → r .reads tables ws x ≡ r .reads tables (λ n. whole) x
-  pub zeros :
-      (l1 : ℕ) (others : List ℕ) (ws : ℕ → Words) (x : ℕ) →
-      ((i : ℕ) → ws 2 i ≡ 0) → r .reads (l1 ∷ others) ws x ≡ r .nothing
-  pub grants :
-      (l : Layout) (base sup : List ℕ) (words : Words) (x : ℕ) →
-      Guarded outputLimit base sup l →
-      ((i : ℕ) → i < arenaLength → words i ≡ target l base sup i) →
-      r .reads (addressesOf l) (λ n. words) x ≡ r .reaching (granted l base sup x)
+use Rattle.updates.proofs.Torn.{Torn, Either, along, towards}
 
 -- past the arena there are zeros
 past : (words : List ℕ) (i : ℕ) → length words ≡ arenaLength → arenaLength ≤ i → getD words i 0 ≡ 0
@@ -53,7 +31,7 @@ module _ (tables words : List ℕ) (k : ℕ) (old : List ℕ) (s : Source) (b : 
   torn-old : k ≤ halfway → Torn (wordsOf words) (wordsOf old)
   torn-old h i = go (ltb i arenaLength) (ltb i k) refl refl
     where
-      go : (c d : Bool) → ltb i arenaLength ≡ c → ltb i k ≡ d → (getD words i 0 ≡ getD old i 0) ⊎ (getD words i 0 ≡ 0)
+      go : (c d : Bool) → ltb i arenaLength ≡ c → ltb i k ≡ d → Either (getD words i 0) (getD old i 0) 0
       go false d p q = inr (past words i (b .long) (ltb-false _ _ p))
       go true true p q = inr (b .word i (ltb-true _ _ p) ∙ zeroed k old s i h (ltb-true _ _ q))
       go true false p q = inl (b .word i (ltb-true _ _ p) ∙ untouched k old s i h (ltb-false _ _ q))
@@ -61,13 +39,9 @@ module _ (tables words : List ℕ) (k : ℕ) (old : List ℕ) (s : Source) (b : 
   torn-new : halfway ≤ k → Torn (wordsOf words) (targetFrom s)
   torn-new h i = go (ltb i arenaLength) refl
     where
-      by : (e : ℕ) → getD words i 0 ≡ e → (e ≡ targetFrom s i) ⊎ (e ≡ 0) → (getD words i 0 ≡ targetFrom s i) ⊎ (getD words i 0 ≡ 0)
-      by e p (inl q) = inl (p ∙ q)
-      by e p (inr q) = inr (p ∙ q)
-
-      go : (c : Bool) → ltb i arenaLength ≡ c → (getD words i 0 ≡ targetFrom s i) ⊎ (getD words i 0 ≡ 0)
+      go : (c : Bool) → ltb i arenaLength ≡ c → Either (getD words i 0) (targetFrom s i) 0
       go false p = inr (past words i (b .long) (ltb-false _ _ p))
-      go true p = let h′ = ltb-true _ _ p in by (wordAfter k old s i) (b .word i h′) (from-halfway k old s i h h′)
+      go true p = let low = ltb-true _ _ p in along (b .word i low) (from-halfway k old s i h low)
 
   all-zero : k ≡ halfway → (i : ℕ) → getD words i 0 ≡ 0
   all-zero e i = go (ltb i arenaLength) refl
@@ -136,17 +110,13 @@ module _
 
     new-or-nothing :
         EachRead (λ n. halfway ≤ k n) →
-        (r .reads tables (λ n. wordsOf (at n)) x ≡ r .reaching (grantedFrom source x)) ⊎ (r .reads tables (λ n. wordsOf (at n)) x ≡ r .nothing)
-    new-or-nothing h = go (law .torn tables (λ n. wordsOf (at n)) (targetFrom source) x (λ n b. torn-new tables (at n) (k n) old source (begun-at n b (h n b)) (h n b)))
+        Either (r .reads tables (λ n. wordsOf (at n)) x) (r .reaching (grantedFrom source x)) (r .nothing)
+    new-or-nothing h =
+        towards (granting tables (at 0) (k 0) old source (begun-from 0 (omega arith)) r law (targetFrom source) x (λ i b. refl))
+        (law .torn tables (λ n. wordsOf (at n)) (targetFrom source) x (λ n b. torn-new tables (at n) (k n) old source (begun-from n b) (h n b)))
       where
-        first-cut : Begun tables (at 0) (k 0) old source
-        first-cut = begun-at 0 (omega arith) (h 0 (omega arith))
-
-        go :
-            {a : A} → (a ≡ r .reads tables (λ n. targetFrom source) x) ⊎ (a ≡ r .nothing) →
-            (a ≡ r .reaching (grantedFrom source x)) ⊎ (a ≡ r .nothing)
-        go (inl e) = inl (e ∙ granting tables (at 0) (k 0) old source first-cut r law (targetFrom source) x (λ i b. refl))
-        go (inr e) = inr e
+        begun-from : (n : ℕ) → n < 3 → Begun tables (at n) (k n) old source
+        begun-from n b = begun-at n b (h n b)
 
     nothing-at-half : EachRead (λ n. k n ≡ halfway) → r .reads tables (λ n. wordsOf (at n)) x ≡ r .nothing
     nothing-at-half h =
@@ -179,24 +149,6 @@ module _
           at-half-way = nothing-at-half;
           after-the-last = granted-at-last;
         }
-
-walk-lawful : Lawful theWalk
-walk-lawful =
-    record {
-      torn = walk-torn;
-      same = walk-same;
-      zeros = walk-zeros;
-      grants = λ l base sup words x g is. reaches l base sup words g is x .walks;
-    }
-
-manual-lawful : (m : Machine) (a : Access) → Lawful (theManual m a)
-manual-lawful m a =
-    record {
-      torn = manual-torn m a;
-      same = manual-same m a;
-      zeros = λ l1 others ws x z. manual-zeros l1 others ws x z m a;
-      grants = λ l base sup words x g is. reaches l base sup words g is x .translates m a;
-    }
 
 pub demand-3 : Demand3
 demand-3 = record { walk = concludes theWalk walk-lawful; manual = λ m a. concludes (theManual m a) (manual-lawful m a) }

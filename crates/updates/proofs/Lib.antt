@@ -3,6 +3,7 @@ pub mod Belonging
 pub mod Completing
 pub mod Demand3
 pub mod Granting
+pub mod Lawful
 pub mod SceneS
 pub mod State
 pub mod Torn

@@ -1,7 +1,7 @@
 -- S's maps are filled by computing; the rest are cases of the theorems.
 use Prim.Native.Nat.{ℕ}
 use mathlib.Core.Bool.{true}
-use mathlib.Core.List.{List, [], _∷_, flatMap, map}
+use mathlib.Core.List.{List, [], _∷_, flatMap}
 use mathlib.Core.Path.{_≡_, refl, sym, _∙_}
 use native.Mathlib.Omega.{arith}
 use lib.ListN.{length, replicate}
@@ -19,7 +19,7 @@ use Rattle.rows.specs.Rows.{row2, lengthRows}
 use Rattle.update.specs.Step.{halfway}
 use Rattle.walks.specs.Demand2.{addressesOf}
 use Rattle.walks.specs.Tabled.{S, reach}
-use Rattle.window_reach.specs.Granted.{grantedBy, granted}
+use Rattle.window_reach.specs.Granted.{grantedBy}
 use Rattle.updates.specs.Completing.{fullUpdate, AcceptedSource, Completes}
 use Rattle.updates.specs.Demand3.{mapsOf, grantedFrom, FilledFrom}
 use Rattle.updates.specs.SceneS.{sourceS, walkAfter, SceneS}

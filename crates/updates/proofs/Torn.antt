@@ -17,21 +17,28 @@ use Rattle.fields.specs.Bits.{bits}
 use Rattle.fields.specs.Named.{pick}
 use Rattle.layout.specs.Size.{entries, inputLimit}
 use Rattle.manual.specs.Translation.{Machine, Access, Translated, fault, leaf, level1, level2, level3, translation}
-use Rattle.reach.specs.declared.Reached.{Reached}
 use Rattle.reach.specs.declared.Reached.the-variants.{Nothing}
 use Rattle.walk.specs.Descent.{Words, index, fetchFrom, fetch, endsAt, leads, descend}
 use Rattle.walk.specs.Walk.{reading, walkOf}
-use Rattle.walk.specs.declared.Stop.the-variants.{Leaf, Stopped}
+use Rattle.walk.specs.declared.Stop.the-variants.{Stopped}
 use Rattle.walk.specs.declared.Stop.{Stop}
 use Rattle.updates.specs.Demand3.{EachRead}
 
+-- a value is this one, or that
+abbrev pub Either : {A : Type 0} → A → A → A → Type 0
+Either a this that = (a ≡ this) ⊎ (a ≡ that)
+
+pub along : {A : Type 0} {a b this that : A} → a ≡ b → Either b this that → Either a this that
+along e (inl p) = inl (e ∙ p)
+along e (inr p) = inr (e ∙ p)
+
+pub towards : {A : Type 0} {a this other that : A} → this ≡ other → Either a this that → Either a other that
+towards e (inl p) = inl (p ∙ e)
+towards e (inr p) = inr p
+
 -- each word is the whole one or 0
 abbrev pub Torn : Words → Words → Type 0
-Torn w whole = (i : ℕ) → (w i ≡ whole i) ⊎ (w i ≡ 0)
-
--- a value is this one, or that
-abbrev Either : {A : Type 0} → A → A → A → Type 0
-Either a this that = (a ≡ this) ⊎ (a ≡ that)
+Torn w whole = (i : ℕ) → Either (w i) (whole i) 0
 
 either : {A B : Type 0} (f : A → B) {a this that : A} → Either a this that → Either (f a) (f this) (f that)
 either f (inl e) = inl (ap f e)
