@@ -12,17 +12,17 @@ use Rattle.layout.specs.Layout.{layoutOf}
 use Rattle.layout.specs.Size.{outputLimit, arenaLength}
 use Rattle.perm.specs.declared.Perm.the-variants.{Rw}
 use Rattle.reach.specs.declared.Reached.the-variants.{Nothing}
-use Rattle.refusal.specs.Table.{accepted, first, eachFrom}
+use Rattle.refusal.specs.Table.{accepted, first, eachFrom, pairs}
 use Rattle.rows.proofs.Examples as Rows
 use Rattle.rows.specs.Examples.{baseS, supS}
-use Rattle.rows.specs.Rows.{row2, lengthRows}
-use Rattle.update.specs.Step.{halfway}
+use Rattle.rows.specs.Rows.{row1, row2, row3, row4, row5, row6, row7, row8, row9, row10, row13, row14, lengthRows, mapRows, pairRows, windowRows, refusalsAt, guardRows, arenaGuardRows}
+use Rattle.update.specs.Step.{halfway, row26, stepRows}
 use Rattle.walks.specs.Demand2.{addressesOf}
 use Rattle.walks.specs.Tabled.{S, reach}
 use Rattle.window_reach.specs.Granted.{grantedBy}
 use Rattle.updates.specs.Completing.{fullUpdate, AcceptedSource, Completes}
 use Rattle.updates.specs.Demand3.{mapsOf, grantedFrom, FilledFrom}
-use Rattle.updates.specs.SceneS.{sourceS, walkAfter, SceneS}
+use Rattle.updates.specs.SceneS.{sourceS, walkAfter, AnswersS, SceneS}
 use Rattle.updates.proofs.Completing.{updates-complete}
 use Rattle.updates.proofs.Demand3.{demand-3}
 use Rattle.updates.proofs.Granting.{base-entries, sup-entries, same-granted}
@@ -30,6 +30,10 @@ use Rattle.updates.proofs.Granting.{base-entries, sup-entries, same-gra
 fills : filled (sourceS .frames) 3 (sourceS .edges) (9 ∷ 9 ∷ []) (9 ∷ 9 ∷ 9 ∷ []) ≡ filling baseS supS accepted
 unfolding filled filledInto onward placedAll placed counts owns putIn conflicts row17 first eachFrom lengthRows row2 flatMap
 fills = refl
+
+answers : AnswersS
+unfolding layoutOf first flatMap eachFrom pairs row1 row2 row3 row4 row5 row6 row7 row8 row9 row10 row13 row14 lengthRows mapRows pairRows windowRows refusalsAt guardRows arenaGuardRows row26 stepRows
+answers = record { past-last = refl; last-step = refl; fourteen-first = refl }
 
 from-S : FilledFrom sourceS baseS supS
 from-S = record { lent-base = 9 ∷ 9 ∷ []; lent-sup = 9 ∷ 9 ∷ 9 ∷ []; fills = fills }
@@ -61,6 +65,7 @@ module _ (words : List ℕ) (long : length words ≡ arenaLength) where
 pub scene-S : SceneS
 scene-S =
     record {
+      answers = answers;
       fills = fills;
       completes = completes;
       half-way = half-way;

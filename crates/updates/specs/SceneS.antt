@@ -3,7 +3,7 @@ use Prim.Native.Nat.{ℕ}
 use mathlib.Core.Bool.{true}
 use mathlib.Core.List.{List, [], _∷_, map}
 use mathlib.Core.Path.{_≡_}
-use lib.ListN.{length}
+use lib.ListN.{length, replicate}
 use Rattle.edge.specs.Edge.{edgeOf}
 use Rattle.filling.specs.Filling.{filling, filled}
 use Rattle.layout.specs.Size.{arenaLength}
@@ -11,9 +11,9 @@ use Rattle.leaves.specs.Examples.{edge}
 use Rattle.perm.specs.declared.Perm.the-variants.{Rw}
 use Rattle.reach.specs.declared.Reached.{Reached}
 use Rattle.reach.specs.declared.Reached.the-variants.{Nothing}
-use Rattle.refusal.specs.Table.{accepted}
+use Rattle.refusal.specs.Table.{row, Outcome, accepted, refused, first}
 use Rattle.rows.specs.Examples.{baseS, supS}
-use Rattle.update.specs.Step.{halfway, stepCount}
+use Rattle.update.specs.Step.{halfway, stepCount, stepRows}
 use Rattle.walk.specs.Descent.{wordsOf}
 use Rattle.walk.specs.Walk.{walkOf}
 use Rattle.walks.specs.Demand2.{addressesOf}
@@ -36,10 +36,21 @@ abbrev pub walkAfter : List ℕ → ℕ → ℕ → Reached
 walkAfter words n x =
     walkOf (addressesOf S) (λ r. wordsOf (cutAfter words (fullUpdate sourceS baseS supS) n .words)) x
 
--- from any 3,072 words
+-- what step n to S answers over zeros, with a super map
+abbrev pub answerS : ℕ → List ℕ → Outcome
+answerS n sup = first (stepRows S baseS sup n (replicate arenaLength 0))
+
+-- row 26's example, the step before it, and that 14 comes before 26
+pub record AnswersS : Type 0 where
+  pub past-last : answerS 6144 supS ≡ refused (row 26 [])
+  pub last-step : answerS 6143 supS ≡ accepted
+  pub fourteen-first : answerS 6144 (0 ∷ 0 ∷ 3 ∷ 0 ∷ 1 ∷ []) ≡ refused (row 14 (4 ∷ []))
+
 pub record SceneS : Type 0 where
+  pub answers : AnswersS
   pub fills :
       filled (sourceS .frames) 3 (sourceS .edges) (9 ∷ 9 ∷ []) (9 ∷ 9 ∷ 9 ∷ []) ≡ filling baseS supS accepted
+  -- from any 3,072 words
   pub completes :
       (words : List ℕ) → length words ≡ arenaLength → Completes (addressesOf S) words [] sourceS baseS supS
   pub half-way : (words : List ℕ) → length words ≡ arenaLength → walkAfter words halfway 0x8000_1234 ≡ Nothing
