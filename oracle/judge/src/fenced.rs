@@ -7,7 +7,7 @@ pub struct Fenced<T> {
 }
 
 /// How many records or bytes make a fence.
-const LEN: usize = 8;
+pub const LEN: usize = 8;
 
 impl<T: Copy + PartialEq> Fenced<T> {
     pub fn new(lent: &[T], fence: T) -> Self {
@@ -16,6 +16,10 @@ impl<T: Copy + PartialEq> Fenced<T> {
             fence,
             all: [&fences[..], lent, &fences[..]].concat(),
         }
+    }
+
+    pub fn len(&self) -> usize {
+        self.all.len() - 2 * LEN
     }
 
     /// Where the list or map starts. It may be written through, so that a store shows.
