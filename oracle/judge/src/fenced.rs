@@ -27,6 +27,12 @@ impl<T: Copy + PartialEq> Fenced<T> {
         self.all[LEN..].as_mut_ptr()
     }
 
+    /// The list or map, to be stored into.
+    pub fn lent_mut(&mut self) -> &mut [T] {
+        let end = LEN + self.len();
+        &mut self.all[LEN..end]
+    }
+
     /// The list or map, or nothing if a fence has been stored into.
     pub fn lent(&self) -> Option<&[T]> {
         let (before, rest) = self.all.split_at(LEN);

@@ -13,6 +13,8 @@ use crate::layout::{self, Fields};
 use crate::port;
 use crate::reach::{self, Encoding};
 use crate::step::{self, Step};
+use crate::torn::{self, Torn};
+use crate::updates::{self, List};
 use crate::verify::{self, Arena};
 use crate::walk::{self, Walk};
 use crate::{absent, desc, p2m, regime};
@@ -126,6 +128,12 @@ pub static SCENES: [Layer<Scene>; 1] = [encode::LAYER];
 /// The functions of a step of an update.
 pub static STEPS: [Layer<Step>; 1] = [step::LAYER];
 
+/// The functions of lists of updates.
+pub static UPDATES: [Layer<List>; 1] = [updates::LAYER];
+
+/// The functions of walks during an update.
+pub static TORN: [Layer<Torn>; 1] = [torn::LAYER];
+
 /// The functions of an address and the tables that it is looked up in.
 pub static WALKS: [Layer<Walk>; 1] = [walk::LAYER];
 
@@ -168,6 +176,8 @@ pub fn fault_names() -> impl Iterator<Item = &'static str> {
         .chain(names(&LAYOUTS))
         .chain(names(&SCENES))
         .chain(names(&STEPS))
+        .chain(names(&UPDATES))
+        .chain(names(&TORN))
         .chain(names(&WALKS))
         .chain(names(&ENCODINGS))
         .chain(names(&ARENAS))

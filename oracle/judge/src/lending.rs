@@ -6,7 +6,7 @@ use crate::port::UNWRITTEN;
 
 pub struct Lending {
     pub arena: Fenced<u64>,
-    base: Fenced<u8>,
+    pub base: Fenced<u8>,
     sup: Fenced<u8>,
 }
 
@@ -25,6 +25,12 @@ impl Lending {
             base: Fenced::new(base, NO_PERMISSION),
             sup: Fenced::new(sup, NO_PERMISSION),
         }
+    }
+
+    /// Lends other maps in the place of these.
+    pub fn lend_maps(&mut self, base: &[u8], sup: &[u8]) {
+        self.base = Fenced::new(base, NO_PERMISSION);
+        self.sup = Fenced::new(sup, NO_PERMISSION);
     }
 
     /// As many words of the arena, or some of the fence after it too, and the maps whole.

@@ -7,130 +7,63 @@ use crate::lending::{Lending, Lent};
 use crate::port::outcome;
 use crate::step::Step;
 
-extern "C" {
-    fn s2_validate(
-        l1_pa: u64,
-        l2_code_pa: u64,
-        l2_data_pa: u64,
-        l3_data_pa: u64,
-        l2_sup_pa: u64,
-        l2_dev_pa: u64,
-        has_image: u64,
-        guest_image_pa: u64,
-        data_ipa_base: u64,
-        data_pa_base: u64,
-        frame_size: u64,
-        sup_ipa_base: u64,
-        sup_pa_base: u64,
-        device_base: u64,
-        device_len: u64,
-        sup_wx_exempt: u64,
-        sup_frames: u64,
-        values: *mut u64,
-    ) -> u32;
+/// Declares functions with a layout as their parameters, between those before and after it.
+macro_rules! declare_with_layout {
+    ($($function:ident([$($before:ident: $first:ty),*], $($after:ident: $last:ty),+);)*) => {
+        extern "C" {
+            $(fn $function(
+                $($before: $first,)*
+                l1_pa: u64,
+                l2_code_pa: u64,
+                l2_data_pa: u64,
+                l3_data_pa: u64,
+                l2_sup_pa: u64,
+                l2_dev_pa: u64,
+                has_image: u64,
+                guest_image_pa: u64,
+                data_ipa_base: u64,
+                data_pa_base: u64,
+                frame_size: u64,
+                sup_ipa_base: u64,
+                sup_pa_base: u64,
+                device_base: u64,
+                device_len: u64,
+                sup_wx_exempt: u64,
+                sup_frames: u64,
+                $($after: $last),+
+            ) -> u32;)*
+        }
+    };
+}
 
-    fn s2_encode(
-        arena: *mut u64,
-        arena_len: usize,
-        base: *const u8,
-        base_len: usize,
-        sup: *const u8,
-        sup_len: usize,
-        l1_pa: u64,
-        l2_code_pa: u64,
-        l2_data_pa: u64,
-        l3_data_pa: u64,
-        l2_sup_pa: u64,
-        l2_dev_pa: u64,
-        has_image: u64,
-        guest_image_pa: u64,
-        data_ipa_base: u64,
-        data_pa_base: u64,
-        frame_size: u64,
-        sup_ipa_base: u64,
-        sup_pa_base: u64,
-        device_base: u64,
-        device_len: u64,
-        sup_wx_exempt: u64,
-        sup_frames: u64,
-        values: *mut u64,
-    ) -> u32;
+/// The same, with an arena and two maps before the layout.
+macro_rules! declare_with_scene {
+    ($($function:ident($arena:ty, $($after:ident: $last:ty),+);)*) => {
+        declare_with_layout! {
+            $($function(
+                [
+                    arena: $arena,
+                    arena_len: usize,
+                    base: *const u8,
+                    base_len: usize,
+                    sup: *const u8,
+                    sup_len: usize
+                ],
+                $($after: $last),+
+            );)*
+        }
+    };
+}
 
-    fn s2_step(
-        arena: *mut u64,
-        arena_len: usize,
-        base: *const u8,
-        base_len: usize,
-        sup: *const u8,
-        sup_len: usize,
-        l1_pa: u64,
-        l2_code_pa: u64,
-        l2_data_pa: u64,
-        l3_data_pa: u64,
-        l2_sup_pa: u64,
-        l2_dev_pa: u64,
-        has_image: u64,
-        guest_image_pa: u64,
-        data_ipa_base: u64,
-        data_pa_base: u64,
-        frame_size: u64,
-        sup_ipa_base: u64,
-        sup_pa_base: u64,
-        device_base: u64,
-        device_len: u64,
-        sup_wx_exempt: u64,
-        sup_frames: u64,
-        step: u64,
-        values: *mut u64,
-    ) -> u32;
+declare_with_layout! {
+    s2_validate([], values: *mut u64);
+    s2_exposed([], values: *mut u64);
+}
 
-    fn s2_verify(
-        arena: *const u64,
-        arena_len: usize,
-        base: *const u8,
-        base_len: usize,
-        sup: *const u8,
-        sup_len: usize,
-        l1_pa: u64,
-        l2_code_pa: u64,
-        l2_data_pa: u64,
-        l3_data_pa: u64,
-        l2_sup_pa: u64,
-        l2_dev_pa: u64,
-        has_image: u64,
-        guest_image_pa: u64,
-        data_ipa_base: u64,
-        data_pa_base: u64,
-        frame_size: u64,
-        sup_ipa_base: u64,
-        sup_pa_base: u64,
-        device_base: u64,
-        device_len: u64,
-        sup_wx_exempt: u64,
-        sup_frames: u64,
-        values: *mut u64,
-    ) -> u32;
-
-    fn s2_exposed(
-        l1_pa: u64,
-        l2_code_pa: u64,
-        l2_data_pa: u64,
-        l3_data_pa: u64,
-        l2_sup_pa: u64,
-        l2_dev_pa: u64,
-        has_image: u64,
-        guest_image_pa: u64,
-        data_ipa_base: u64,
-        data_pa_base: u64,
-        frame_size: u64,
-        sup_ipa_base: u64,
-        sup_pa_base: u64,
-        device_base: u64,
-        device_len: u64,
-        sup_wx_exempt: u64,
-        sup_frames: u64,
-        values: *mut u64,
-    ) -> u32;
+declare_with_scene! {
+    s2_encode(*mut u64, values: *mut u64);
+    s2_step(*mut u64, step: u64, values: *mut u64);
+    s2_verify(*const u64, values: *mut u64);
 }
 
 /// Calls a function with a layout as its parameters, between those before and after it.
@@ -197,6 +130,20 @@ pub fn step(x: &Step) -> Encoded {
     lend("s2_step", &x.scene, |lent, values| unsafe {
         with_scene!(s2_step, lent, x.scene.fields, x.number, values)
     })
+}
+
+/// What a step is handed with an arena and maps that stay lent from call to call.
+#[derive(Clone, Copy)]
+pub struct Call {
+    pub arena_len: usize,
+    pub fields: Fields,
+    pub number: u64,
+}
+
+pub fn step_in(lending: &mut Lending, call: Call) -> Outcome {
+    let lent = lending.part(call.arena_len);
+    // SAFETY: the arena and each map are as long as is said, and eight values are written.
+    outcome(|values| unsafe { with_scene!(s2_step, lent, call.fields, call.number, values) })
 }
 
 /// What a call answers and leaves in the arena. It fails if the call has changed a map, or what

@@ -3,7 +3,7 @@
 use crate::compare::{compare, Difference};
 use crate::function::{
     fault_names, faults, functions, Fault, Input, Layer, ARENAS, ENCODINGS, EXPOSED, FILLINGS,
-    GRANTED, LAYOUTS, LINKED, SCENES, STEPS, TEXTS, WALKS, WORDS,
+    GRANTED, LAYOUTS, LINKED, SCENES, STEPS, TEXTS, TORN, UPDATES, WALKS, WORDS,
 };
 
 pub fn self_test() -> Result<(), String> {
@@ -11,6 +11,8 @@ pub fn self_test() -> Result<(), String> {
         + missed(&LAYOUTS)
         + missed(&SCENES)
         + missed(&STEPS)
+        + missed(&UPDATES)
+        + missed(&TORN)
         + missed(&WALKS)
         + missed(&ENCODINGS)
         + missed(&ARENAS)

@@ -2,7 +2,9 @@
 
 use crate::damage::place;
 use crate::encode::{target, Scene};
-use crate::encode_inputs::{accepted_scene, changed_scenes, filled_scenes, scene, scenes};
+use crate::encode_inputs::{
+    accepted_scene, any_scene, changed_scenes, filled_scenes, scene, scenes,
+};
 use crate::examples::{examples, Example};
 use crate::inputs::{random, Random};
 use crate::layout::L2_DEV;
@@ -66,6 +68,13 @@ pub fn example_steps() -> impl Iterator<Item = Step> {
 
 pub fn steps(scale: usize) -> impl Iterator<Item = Step> {
     numbered(Random(82), scenes(scale))
+}
+
+pub fn any_step(random: &mut Random) -> Step {
+    Step {
+        scene: any_scene(random),
+        number: number(random),
+    }
 }
 
 fn numbered(mut random: Random, scenes: impl Iterator<Item = Scene>) -> impl Iterator<Item = Step> {
