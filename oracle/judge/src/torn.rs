@@ -28,8 +28,26 @@ pub struct Torn {
 }
 
 /// What is told of each of the walks.
-#[derive(Clone, PartialEq)]
+#[derive(Clone)]
 pub struct Answers(Vec<Told>);
+
+/// What is reached is compared, and whether it is allowed. The rest is there to tell the kinds.
+impl PartialEq for Answers {
+    fn eq(&self, other: &Self) -> bool {
+        self.0.len() == other.0.len() && self.differing(other).is_none()
+    }
+}
+
+impl Answers {
+    /// The first walk that is answered otherwise.
+    fn differing(&self, other: &Self) -> Option<&Told> {
+        let mut both = self.0.iter().zip(&other.0);
+        let differs = |(told, other): &(&Told, &Told)| {
+            told[..IPA] != other[..IPA] || told[ALLOWED] != other[ALLOWED]
+        };
+        both.find(differs).map(|(told, _)| told)
+    }
+}
 
 pub const LAYER: Layer<Torn> = Layer {
     functions: &[Function {
@@ -63,11 +81,8 @@ impl Reply for Answers {
         self.0.iter().map(|told| &told[..])
     }
 
-    /// The first walk of which something else is told.
     fn shown(&self, other: &Self) -> String {
-        let mut both = self.0.iter().zip(&other.0);
-        let differing = both.find(|(told, other)| told != other);
-        differing.map_or(String::new(), |(told, _)| hex(told))
+        self.differing(other).map_or(String::new(), hex)
     }
 }
 
