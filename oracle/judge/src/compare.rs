@@ -4,7 +4,7 @@ use std::fmt::{self, Display, Formatter};
 
 use crate::function::{
     faults, functions, Fault, Function, Input, Layer, Reply, ARENAS, ENCODINGS, EXPOSED, FILLINGS,
-    GRANTED, LAYOUTS, LINKED, SCENES, TEXTS, WALKS, WORDS,
+    GRANTED, LAYOUTS, LINKED, SCENES, STEPS, TEXTS, TORN, UPDATES, WALKS, WORDS,
 };
 use crate::tally::Tally;
 
@@ -13,6 +13,9 @@ pub fn compare_all(scale: usize, fault: Option<&str>) -> Result<(), String> {
     let inputs = compare_layers(&WORDS, scale, fault)?
         + compare_layers(&LAYOUTS, scale, fault)?
         + compare_layers(&SCENES, scale, fault)?
+        + compare_layers(&STEPS, scale, fault)?
+        + compare_layers(&UPDATES, scale, fault)?
+        + compare_layers(&TORN, scale, fault)?
         + compare_layers(&WALKS, scale, fault)?
         + compare_layers(&ENCODINGS, scale, fault)?
         + compare_layers(&ARENAS, scale, fault)?
@@ -68,7 +71,7 @@ pub fn compare<I: Input>(
                 seeded: original == unaltered,
             }));
         }
-        tally.count(original.words());
+        original.answers().for_each(|answer| tally.count(answer));
     }
     Ok(tally)
 }

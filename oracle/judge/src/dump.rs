@@ -3,6 +3,8 @@
 //! What it reads and prints is document 01's section "Proved and printed". The words are the
 //! unchanged Rust's, as in encode.rs.
 
+use std::iter::once;
+
 use crate::dump_inputs::{bad_texts, example_texts, mangled_texts, texts};
 use crate::encode::{encode, Encoded, TABLE_LEN};
 use crate::function::{answers, Answer, Function, Input, Layer, Reply};
@@ -80,8 +82,8 @@ impl Input for Text {
 }
 
 impl Reply for Printed {
-    fn words(&self) -> &[u64] {
-        &self.number
+    fn answers(&self) -> impl Iterator<Item = &[u64]> {
+        once(&self.number[..])
     }
 
     fn shown(&self, _: &Self) -> String {

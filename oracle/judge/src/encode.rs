@@ -4,6 +4,7 @@
 //! Rows 4 to 12 are as in layout.rs. The words of an accepted scene are the unchanged Rust's.
 
 use std::fmt::{self, Display, Formatter};
+use std::iter::once;
 use std::ops::Range;
 
 use given_s2::arm64::{self, Tables};
@@ -89,20 +90,24 @@ impl Input for Scene {
 }
 
 impl Reply for Encoded {
-    fn words(&self) -> &[u64] {
-        &self.outcome
+    fn answers(&self) -> impl Iterator<Item = &[u64]> {
+        once(&self.outcome[..])
     }
 
-    /// The answer, and the first few words that differ, with their tables and indices.
     fn shown(&self, other: &Self) -> String {
-        let both = self.arena.iter().zip(&other.arena).enumerate();
-        let differing = both.filter(|(_, (word, other))| word != other).take(4);
-        let differing = differing.map(|(place, (word, _))| {
-            let (table, index) = (1 + place / TABLE_LEN, place % TABLE_LEN);
-            format!(", {table} {index:03x} {word:016x}")
-        });
-        hex(&self.outcome) + &differing.collect::<String>()
+        hex(&self.outcome) + &differing(&self.arena, &other.arena)
     }
+}
+
+/// The first few words that differ, with their tables and indices.
+pub fn differing(words: &[u64], others: &[u64]) -> String {
+    let both = words.iter().zip(others).enumerate();
+    let differing = both.filter(|(_, (word, other))| word != other).take(4);
+    let shown = differing.map(|(place, (word, _))| {
+        let (table, index) = (1 + place / TABLE_LEN, place % TABLE_LEN);
+        format!(", {table} {index:03x} {word:016x}")
+    });
+    shown.collect()
 }
 
 pub fn encode(scene: &Scene) -> Encoded {
@@ -116,7 +121,15 @@ pub fn encode(scene: &Scene) -> Encoded {
 
 /// What the unchanged Rust makes of the arena. It asks for rows 1 to 12, not for 13 and 14.
 pub fn emitted(scene: &Scene) -> Vec<u64> {
-    let mut arena = scene.arena.clone();
+    emitted_over(scene.arena.clone(), scene)
+}
+
+/// What it makes of zeros, whatever the arena holds.
+pub fn target(scene: &Scene) -> Vec<u64> {
+    emitted_over(vec![0; ARENA_LEN], scene)
+}
+
+fn emitted_over(mut arena: Vec<u64>, scene: &Scene) -> Vec<u64> {
     let ([l1, l2_code, l2_data, l3_data, l2_sup, l2_dev], []) = arena.as_chunks_mut() else {
         panic!("row 1 refuses any other arena");
     };

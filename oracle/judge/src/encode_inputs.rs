@@ -62,10 +62,10 @@ pub fn scene(fields: Fields) -> Scene {
 }
 
 pub fn scenes(scale: usize) -> impl Iterator<Item = Scene> {
-    random(Random(17), 130_000 * scale, random_scene)
+    random(Random(17), 130_000 * scale, any_scene)
 }
 
-fn random_scene(random: &mut Random) -> Scene {
+pub fn any_scene(random: &mut Random) -> Scene {
     let fields = match random.below(4) {
         0 => accepted(random),
         _ => moved(random),

@@ -15,7 +15,8 @@ pub fn examples<I: Input>(
     list.iter().map(move |(answer, change)| {
         let input = altered(unchanged(), change);
         let reply = original(&input);
-        assert_eq!(reply.words()[..answer.len()], **answer, "{}", input.shown());
+        let first = reply.answers().next().expect("an answer");
+        assert_eq!(first[..answer.len()], **answer, "{}", input.shown());
         input
     })
 }

@@ -7,7 +7,7 @@ pub struct Fenced<T> {
 }
 
 /// How many records or bytes make a fence.
-const LEN: usize = 8;
+pub const LEN: usize = 8;
 
 impl<T: Copy + PartialEq> Fenced<T> {
     pub fn new(lent: &[T], fence: T) -> Self {
@@ -18,9 +18,19 @@ impl<T: Copy + PartialEq> Fenced<T> {
         }
     }
 
+    pub fn len(&self) -> usize {
+        self.all.len() - 2 * LEN
+    }
+
     /// Where the list or map starts. It may be written through, so that a store shows.
     pub fn as_mut_ptr(&mut self) -> *mut T {
         self.all[LEN..].as_mut_ptr()
+    }
+
+    /// The list or map, to be stored into.
+    pub fn lent_mut(&mut self) -> &mut [T] {
+        let end = LEN + self.len();
+        &mut self.all[LEN..end]
     }
 
     /// The list or map, or nothing if a fence has been stored into.

@@ -4,6 +4,7 @@
 //! of the unchanged Rust, the maps included.
 
 use std::fmt::{self, Display, Formatter};
+use std::iter::once;
 
 use given_core::p2m::DomId;
 use given_s2::leafmap::{leaf_map_from_edges, span_of_table, MapError, Maps, Perm};
@@ -72,8 +73,8 @@ impl Input for Filling {
 }
 
 impl Reply for Filled {
-    fn words(&self) -> &[u64] {
-        &self.outcome
+    fn answers(&self) -> impl Iterator<Item = &[u64]> {
+        once(&self.outcome[..])
     }
 
     fn shown(&self, _: &Self) -> String {

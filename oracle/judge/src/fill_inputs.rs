@@ -49,8 +49,13 @@ fn accepted(random: &mut Random) -> Filling {
         base: dirty(random),
         sup: dirty(random),
     };
-    x.edges = (0..edge_count).map(|_| edge(random, &x)).collect();
+    linked(random, &mut x, edge_count);
     x
+}
+
+/// Gives a filling so many edges, none of which is refused.
+pub fn linked(random: &mut Random, x: &mut Filling, count: u64) {
+    x.edges = (0..count).map(|_| edge(random, x)).collect();
 }
 
 /// An edge that is not refused: base gets the even frames, and super the odd ones.

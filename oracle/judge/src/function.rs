@@ -1,5 +1,7 @@
 //! What the comparison knows of a function, and the layers that the functions come from.
 
+use std::iter::once;
+
 use crate::authorized::{self, Granted};
 use crate::dump::{self, Text};
 use crate::encode::{self, Scene};
@@ -10,6 +12,9 @@ use crate::inputs::{altered, few_codes, hex, many_codes, one, Inputs, Words};
 use crate::layout::{self, Fields};
 use crate::port;
 use crate::reach::{self, Encoding};
+use crate::step::{self, Step};
+use crate::torn::{self, Torn};
+use crate::updates::{self, List};
 use crate::verify::{self, Arena};
 use crate::walk::{self, Walk};
 use crate::{absent, desc, p2m, regime};
@@ -30,16 +35,16 @@ pub trait Input: 'static {
 
 /// An answer, with what a function stores besides.
 pub trait Reply: Clone + PartialEq {
-    /// The words that tell of which kind the answer is.
-    fn words(&self) -> &[u64];
+    /// The words that tell of which kind the answer is: of each, where a reply has many.
+    fn answers(&self) -> impl Iterator<Item = &[u64]>;
 
     /// The reply as it is printed beside one that differs.
     fn shown(&self, other: &Self) -> String;
 }
 
 impl<const N: usize> Reply for [u64; N] {
-    fn words(&self) -> &[u64] {
-        self
+    fn answers(&self) -> impl Iterator<Item = &[u64]> {
+        once(&self[..])
     }
 
     fn shown(&self, _: &Self) -> String {
@@ -120,6 +125,15 @@ pub static LAYOUTS: [Layer<Fields>; 1] = [layout::LAYER];
 /// The functions of a layout with an arena and two maps.
 pub static SCENES: [Layer<Scene>; 1] = [encode::LAYER];
 
+/// The functions of a step of an update.
+pub static STEPS: [Layer<Step>; 1] = [step::LAYER];
+
+/// The functions of lists of updates.
+pub static UPDATES: [Layer<List>; 1] = [updates::LAYER];
+
+/// The functions of walks during an update.
+pub static TORN: [Layer<Torn>; 1] = [torn::LAYER];
+
 /// The functions of an address and the tables that it is looked up in.
 pub static WALKS: [Layer<Walk>; 1] = [walk::LAYER];
 
@@ -161,6 +175,9 @@ pub fn fault_names() -> impl Iterator<Item = &'static str> {
     names(&WORDS)
         .chain(names(&LAYOUTS))
         .chain(names(&SCENES))
+        .chain(names(&STEPS))
+        .chain(names(&UPDATES))
+        .chain(names(&TORN))
         .chain(names(&WALKS))
         .chain(names(&ENCODINGS))
         .chain(names(&ARENAS))

@@ -1,11 +1,10 @@
 //! What a port that verifies answers if it takes some words for others, as many slips do.
 
-use crate::encode::table;
+use crate::encode::{table, target};
 use crate::function::with;
 use crate::inputs::Outcome;
 use crate::layout::{ACCEPTED, DATA_PA, PAGE};
 use crate::verify::Arena;
-use crate::verify_inputs::over_zeros;
 
 /// Whether no row refuses before the arena is read.
 pub fn read(answer: &Outcome) -> bool {
@@ -14,7 +13,7 @@ pub fn read(answer: &Outcome) -> bool {
 
 /// The words that the scene is encoded to.
 pub fn due(x: &Arena) -> Vec<u64> {
-    over_zeros(x.0.clone()).0.arena
+    target(&x.0)
 }
 
 /// Takes words for others, each by its place and what is due there, if the arena is read.

@@ -51,12 +51,16 @@ impl Input for Encoding {
 }
 
 fn reach(x: &Encoding) -> Outcome {
-    let scene = &x.scene;
+    granted(&x.scene, x.walk.ipa)
+}
+
+/// What the layout and the maps say that an address reaches.
+pub fn granted(scene: &Scene, ipa: u64) -> Outcome {
     reached(window_reach(
         &layout(&scene.fields),
         &maps::entries(&scene.base),
         &maps::entries(&scene.sup),
-        x.walk.ipa,
+        ipa,
     ))
 }
 

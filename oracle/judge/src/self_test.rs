@@ -3,13 +3,16 @@
 use crate::compare::{compare, Difference};
 use crate::function::{
     fault_names, faults, functions, Fault, Input, Layer, ARENAS, ENCODINGS, EXPOSED, FILLINGS,
-    GRANTED, LAYOUTS, LINKED, SCENES, TEXTS, WALKS, WORDS,
+    GRANTED, LAYOUTS, LINKED, SCENES, STEPS, TEXTS, TORN, UPDATES, WALKS, WORDS,
 };
 
 pub fn self_test() -> Result<(), String> {
     let missed = missed(&WORDS)
         + missed(&LAYOUTS)
         + missed(&SCENES)
+        + missed(&STEPS)
+        + missed(&UPDATES)
+        + missed(&TORN)
         + missed(&WALKS)
         + missed(&ENCODINGS)
         + missed(&ARENAS)

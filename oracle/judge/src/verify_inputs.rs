@@ -64,7 +64,7 @@ fn put(x: &mut Arena, number: usize, index: usize, word: u64) {
 }
 
 /// What the scene is encoded to from zeros.
-pub fn over_zeros(mut scene: Scene) -> Arena {
+fn over_zeros(mut scene: Scene) -> Arena {
     scene.arena.fill(0);
     over(scene)
 }

@@ -87,16 +87,16 @@ pub fn walk(x: &Walk) -> Outcome {
     row_1(&x.arena).unwrap_or_else(|| original(x))
 }
 
-/// A fetch reads the first table whose address is exactly the one named, else zero.
 fn original(x: &Walk) -> Outcome {
-    let (tables, _) = x.arena.as_chunks::<TABLE_LEN>();
-    let fetch = |address, index| {
-        let mut named = x.tables.iter().zip(tables);
-        named
-            .find(|(table, _)| **table == address)
-            .map_or(0, |(_, words)| words[index as usize])
-    };
+    let fetch = |address, index| fetched(&x.tables, address, index).map_or(0, |at| x.arena[at]);
     reached(arm64::walk(x.tables[0], x.ipa, fetch))
+}
+
+/// The place that a fetch reads, in the first table whose address is exactly the one named. Where
+/// there is none, it reads zero.
+pub fn fetched(tables: &[u64; 6], address: u64, index: u64) -> Option<usize> {
+    let named = tables.iter().position(|table| *table == address)?;
+    Some(TABLE_LEN * named + index as usize)
 }
 
 pub fn reached(reach: Option<Reach>) -> Outcome {

@@ -138,7 +138,7 @@ fn table_address(random: &mut Random) -> u64 {
 
 impl Walk {
     /// A walk from the tables of a layout, at address 0.
-    fn new(arena: Vec<u64>, x: &Fields) -> Self {
+    pub fn new(arena: Vec<u64>, x: &Fields) -> Self {
         Walk {
             arena: Rc::new(arena),
             tables: std::array::from_fn(|table| x[TABLES][table]),
@@ -147,7 +147,7 @@ impl Walk {
     }
 
     /// The same tables at another address.
-    fn at(&self, ipa: u64) -> Self {
+    pub fn at(&self, ipa: u64) -> Self {
         Walk {
             ipa,
             ..self.clone()
