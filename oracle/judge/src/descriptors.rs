@@ -1,5 +1,6 @@
 //! Words that a table may hold: of every type, with any access, and naming a table or not.
 
+use crate::encode::ARENA_LEN;
 use crate::inputs::Random;
 use crate::layout::{OUTPUT_LIMIT, PAGE};
 
@@ -30,6 +31,12 @@ pub const TYPE: u64 = 3;
 pub const ACCESSED: u64 = 1 << 10;
 
 pub const EXECUTE_NEVER: u64 = 1 << 54;
+
+/// As many words as an arena has, any of which may name a table or its own.
+pub fn ring(random: &mut Random, tables: &[u64]) -> Vec<u64> {
+    let word = |_| descriptor(random, tables);
+    (0..ARENA_LEN).map(word).collect()
+}
 
 /// Mostly one of document 01's words with one of the addresses; now and then with fields that no
 /// encoding has.

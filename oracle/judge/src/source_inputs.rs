@@ -1,7 +1,7 @@
 //! Sources at random, and the words that an update may find.
 
 use crate::arenas::old_words;
-use crate::descriptors::descriptor;
+use crate::descriptors::ring;
 use crate::encode::{target, ARENA_LEN};
 use crate::encode_inputs::{accepted_scene, unmap_past_frames};
 use crate::fill::Filling;
@@ -85,7 +85,7 @@ pub fn found(random: &mut Random, x: &Fields) -> Vec<u64> {
             let stores = random.below(STEPS + 1);
             at_cut(&old, &encoded(random, &other), stores)
         }
-        5 | 6 => ringed(random, x),
+        5 | 6 => ring(random, &x[TABLES]),
         _ => old_words(random, ARENA_LEN),
     }
 }
@@ -95,10 +95,4 @@ fn encoded(random: &mut Random, fields: &Fields) -> Vec<u64> {
         scene.fields = *fields;
         unmap_past_frames(scene);
     }))
-}
-
-/// Words that may name any of the tables.
-pub fn ringed(random: &mut Random, x: &Fields) -> Vec<u64> {
-    let word = |_| descriptor(random, &x[TABLES]);
-    (0..ARENA_LEN).map(word).collect()
 }

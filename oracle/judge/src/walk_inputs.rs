@@ -3,7 +3,7 @@
 use std::rc::Rc;
 
 use crate::damage::{damage, place};
-use crate::descriptors::descriptor;
+use crate::descriptors::ring;
 use crate::encode::{emitted, table, Scene, ARENA_LEN};
 use crate::encode_inputs::{accepted_scene, filled_scenes, scene};
 use crate::examples::{examples, Example};
@@ -108,9 +108,8 @@ pub fn ringed_walks(scale: usize) -> impl Iterator<Item = Walk> {
 
 fn ringed(random: &mut Random) -> Vec<Walk> {
     let tables = std::array::from_fn(|_| table_address(random));
-    let words = std::iter::repeat_with(|| descriptor(random, &tables));
     let walk = Walk {
-        arena: Rc::new(words.take(ARENA_LEN).collect()),
+        arena: Rc::new(ring(random, &tables)),
         tables,
         ipa: 0,
     };
