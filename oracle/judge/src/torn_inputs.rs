@@ -1,5 +1,7 @@
 //! Updates, the cuts that a walk may read at, and addresses that are reached before or after.
 
+use std::rc::Rc;
+
 use crate::damage::place;
 use crate::descriptors::{ADDRESS, TYPE};
 use crate::encode::{table, target, Scene};
@@ -9,40 +11,82 @@ use crate::layout_inputs::{accepted, SCENE};
 use crate::reach::granted;
 use crate::source::Source;
 use crate::source_inputs::{found, next_layout, source, source_s};
-use crate::step::{HALF_WAY, STEPS};
+use crate::step::{Step, HALF_WAY, STEPS};
 use crate::torn::Torn;
 use crate::torn_reads::Reads;
-use crate::updates::{Between, List};
-use crate::updates_inputs::update;
+use crate::updates::{at_cut, Between, List, Update};
+use crate::updates_inputs::{refuse, refused_steps, update};
 use crate::walk::{walk, Walk, NOTHING};
 use crate::walk_addresses::addresses;
 
 /// From scene S to scene S.
 pub fn torn_update_of_s() -> Torn {
     let source = source_s();
-    let first = target(&source.scene);
-    torn(&mut Random(89), &SCENE, first, source)
+    let list = List {
+        first: target(&source.scene),
+        updates: Vec::new(),
+    };
+    torn(&mut Random(89), &SCENE, list, source, &refused_steps())
 }
 
 pub fn torn_updates(scale: usize) -> impl Iterator<Item = Torn> {
-    random(Random(90), 400 * scale, |random| {
+    let refused = refused_steps();
+    random(Random(90), 640 * scale, move |random| {
         let old = accepted(random);
         let first = found(random, &old);
         let layout = next_layout(random, &old);
         let source = source(random, layout);
-        torn(random, &old, first, source)
+        let updates = (0..random.below(3)).map(|_| earlier(random, &source));
+        let updates: Vec<Update> = updates.collect();
+        let last = updates.last().map(|update| update.source.scene.fields);
+        let list = List { first, updates };
+        torn(random, &last.unwrap_or(old), list, source, &refused)
     })
 }
 
-/// Walks in and around the windows of the old layout and of the new one, and through words that
-/// name their own table.
-fn torn(random: &mut Random, old: &Fields, first: Vec<u64>, source: Source) -> Torn {
-    let cuts = cuts(random, &first, &target(&source.scene));
-    let before = Walk::new(first.clone(), old);
+/// An update, often cut, before one with the same source or another.
+fn earlier(random: &mut Random, next: &Source) -> Update {
+    let source = match random.below(2) {
+        0 => next.clone(),
+        _ => {
+            let layout = next_layout(random, &next.scene.fields);
+            source(random, layout)
+        }
+    };
+    let stores = match random.below(3) {
+        0 => 1 + random.below(STEPS),
+        _ => STEPS,
+    };
+    update(random, source, stores, Vec::new())
+}
+
+/// The words that the updates leave.
+fn left(list: &List) -> Vec<u64> {
+    list.updates.iter().fold(list.first.clone(), |old, update| {
+        at_cut(&old, &target(&update.source.scene), update.stores)
+    })
+}
+
+/// One update more. Walks in and around the windows of the old layout and of the new one, and
+/// through words that name their own table.
+fn torn(
+    random: &mut Random,
+    old: &Fields,
+    mut list: List,
+    source: Source,
+    refused: &[Rc<Step>],
+) -> Torn {
+    let found = left(&list);
+    let looks = cuts(random, &found, &target(&source.scene)).into_iter();
+    let mut between: Vec<(u64, Between)> = looks.map(|cut| (cut, Between::Look)).collect();
+    // After a refused step there is a cut too.
+    refuse(random, refused, 16, STEPS, &mut between);
+    let cuts: Vec<u64> = between.iter().map(|(cut, _)| *cut).collect();
+    let before = Walk::new(found.clone(), old);
     let mut ipas = addresses(random, old);
     ipas.extend(addresses(random, &source.scene.fields));
     ipas.extend(pages(random, &source.scene));
-    ipas.extend(rings(&first, old));
+    ipas.extend(rings(&found, old));
     let mut walks = Vec::new();
     for ipa in ipas {
         let old = walk(&before.at(ipa));
@@ -56,10 +100,9 @@ fn torn(random: &mut Random, old: &Fields, first: Vec<u64>, source: Source) -> T
             granted,
         }));
     }
-    let looks = cuts.iter().map(|cut| (*cut, Between::Look)).collect();
-    let updates = vec![update(random, source, STEPS, looks)];
+    list.updates.push(update(random, source, STEPS, between));
     Torn {
-        list: List { first, updates },
+        list,
         tables: before.tables,
         walks,
     }

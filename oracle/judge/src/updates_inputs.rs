@@ -67,13 +67,24 @@ fn cut_update(random: &mut Random, source: Source, refused: &[Rc<Step>]) -> Upda
     for _ in 0..8 {
         between.push((random.below(stores + 1), Between::Look));
     }
-    for _ in 0..random.below(32) {
+    refuse(random, refused, 32, stores, &mut between);
+    update(random, source, stores, between)
+}
+
+/// Fewer than so many refused steps more, at any cuts, and all in order.
+pub fn refuse(
+    random: &mut Random,
+    refused: &[Rc<Step>],
+    most: u64,
+    stores: u64,
+    between: &mut Vec<(u64, Between)>,
+) {
+    for _ in 0..random.below(most) {
         let step = &refused[random.below(refused.len() as u64) as usize];
         let cut = random.below(stores + 1);
         between.push((cut, Between::Refused(step.clone())));
     }
     between.sort_by_key(|(cut, _)| *cut);
-    update(random, source, stores, between)
 }
 
 /// An update of so many stores. The maps are filled anew at any of its steps, or now and then.
@@ -99,7 +110,7 @@ const SAMPLE: usize = 24;
 
 /// Steps that a row refuses, as many of each row. They are handed the arena of a list, or a part of
 /// it, or more.
-fn refused_steps() -> Vec<Rc<Step>> {
+pub fn refused_steps() -> Vec<Rc<Step>> {
     let mut random = Random(88);
     let mut left: [usize; 27] = array::from_fn(|row| match row {
         1..=14 | 26 => SAMPLE,
