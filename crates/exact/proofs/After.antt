@@ -1,7 +1,7 @@
 -- The entry of a frame after one edge, and after the edges from a position on.
 use Prim.Native.Nat.{ℕ, _+_, _≤_, _<_}
 use mathlib.Core.Bool.{Bool, true, false, _&&_}
-use mathlib.Core.List.{List, [], map}
+use mathlib.Core.List.{List}
 use mathlib.Core.Logic.{_≢_}
 use mathlib.Core.Path.{_≡_, refl, sym, ap, _∙_}
 use native.Mathlib.Numerals.{add-one}
@@ -9,7 +9,7 @@ use lib.Dec.{eqb}
 use lib.ListN.{length, getD, set, drop, drop-of-length-le}
 use lib.Seq.{drop-cons, getD-set-same, getD-set-other}
 use borrow.Author.Tests.{eqb-true, eqb-false, eq-eqb, ne-eqb}
-use Rattle.edge.specs.Edge.{edgeOf, entryOf}
+use Rattle.edge.specs.Edge.{entryOf}
 use Rattle.edge.specs.declared.Edge.{Edge}
 use Rattle.fields.specs.Named.{pick}
 use Rattle.p2m.specs.declared.Span.{Span}
@@ -50,14 +50,14 @@ module _ (frames : List (List ℕ)) (dom : ℕ) (s : Span) (m : ℕ) where
           let other = eqb-false (e .child) m t in
           getD-set-other xs (e .child) m (entryOf e) 0 (λ q. other (sym q)) ∙ elsewhere e (getD xs m 0) other
 
-  module _ (rows : List (List ℕ)) (i entry : ℕ) where
+  module _ (edges : List Edge) (i entry : ℕ) where
     pub after-at :
-        i < length rows →
-        afterEdges frames dom s m entry (map edgeOf (drop i rows))
-        ≡ afterEdges frames dom s m (afterEdge frames dom s m entry (edgeOf (getD rows i []))) (map edgeOf (drop (i + 1) rows))
+        (d : Edge) → i < length edges →
+        afterEdges frames dom s m entry (drop i edges)
+        ≡ afterEdges frames dom s m (afterEdge frames dom s m entry (getD edges i d)) (drop (i + 1) edges)
     unfolding afterEdges
-    after-at inside = rw (add-one, drop-cons rows i [] inside)
+    after-at d inside = rw (add-one, drop-cons edges i d inside)
 
-    pub after-end : length rows ≤ i → afterEdges frames dom s m entry (map edgeOf (drop i rows)) ≡ entry
+    pub after-end : length edges ≤ i → afterEdges frames dom s m entry (drop i edges) ≡ entry
     unfolding afterEdges
-    after-end outside = rw (drop-of-length-le rows outside)
+    after-end outside = rw (drop-of-length-le edges outside)

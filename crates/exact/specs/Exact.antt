@@ -37,6 +37,9 @@ unfoldable pub row25 : ℕ → (ℕ → ℕ) → ℕ → ℕ → List Row
 row25 dom wanted m entry = refuseIf (not (eqb entry (wanted m))) 25 (dom ∷ m ∷ entry ∷ wanted m ∷ [])
 
 -- 2 and 3 first, the map's code being the span's; then the lowest frame first
-unfoldable pub exactRows : List (List ℕ) → ℕ → Span → List Edge → List ℕ → List Row
-exactRows frames dom s edges map =
-    table (readRows (spanCode s) map ∷ eachFrom (row25 dom (expected frames dom s edges)) 0 map ∷ [])
+unfoldable pub comparedRows : ℕ → Span → (ℕ → ℕ) → List ℕ → List Row
+comparedRows dom s wanted map = table (readRows (spanCode s) map ∷ eachFrom (row25 dom wanted) 0 map ∷ [])
+
+-- with what the edges give
+abbrev pub exactRows : List (List ℕ) → ℕ → Span → List Edge → List ℕ → List Row
+exactRows frames dom s edges map = comparedRows dom s (expected frames dom s edges) map

@@ -8,9 +8,9 @@ use refusal::Verdict;
 ghost use Prim.Native.Nat.{ℕ, _≤_, _<_};
 ghost use mathlib.Core.List.{map};
 ghost use mathlib.Core.Path.{_≡_};
-ghost use lib.ListN.{length, getD};
+ghost use lib.ListN.{length, getD, replicate};
 ghost use Rattle.edge.specs.Edge.{edgeOf};
-ghost use Rattle.exact.specs.Exact.{lands, afterEdge, expected, row25, exactRows};
+ghost use Rattle.exact.specs.Exact.{lands, afterEdge, expected, row25, comparedRows, exactRows};
 ghost use Rattle.layout.specs.Size.{entries};
 ghost use Rattle.refusal.specs.Outcome.{outcomeOf};
 ghost use Rattle.refusal.specs.Table.{first, eachFrom};
@@ -25,11 +25,17 @@ pub fn check_exact(
 ) -> Verdict
     ensures { λ r. ⌜ outcomeOf r ≡ first (exactRows (now (frames .entry)) dom span (map edgeOf (now (edges .entry))) (now (leaves .entry))) ⌝ }
 {
+    compare(dom, leaves, span, expected_entries(dom, span, edges, frames))
+}
+
+// Rows 2, 3 and 25: whether the map holds the entries wanted.
+pub fn compare(dom: u16, leaves: &[u8], span: Span, wanted: [u8; Layout::ENTRIES]) -> Verdict
+    ensures { λ r. ⌜ outcomeOf r ≡ first (comparedRows dom span (λ m. getD wanted m 0) (now (leaves .entry))) ⌝ }
+{
     let readable = lent::read_map(span.code() as u64, leaves);
     let Verdict::Accepted = readable else {
         return readable;
     };
-    let wanted = expected_entries(dom, span, edges, frames);
     same_entries(dom, leaves, &wanted)
 }
 
@@ -67,6 +73,28 @@ fn expected_entries(
         note(&mut wanted, Edge::of(edges[i]), dom, span, frames);
     }
     wanted
+}
+
+// The entries before any edge.
+pub fn unmapped() -> [u8; Layout::ENTRIES]
+    ensures { λ r. ⌜ r ≡ replicate entries 0 ⌝ }
+{
+    [0u8; Layout::ENTRIES]
+}
+
+// The entries after one edge more.
+pub fn noted(
+    wanted: [u8; Layout::ENTRIES],
+    e: Edge,
+    dom: u16,
+    span: Span,
+    frames: &[[u32; 2]],
+) -> [u8; Layout::ENTRIES]
+    ensures { λ r. ⌜ ((m : ℕ) → m < entries → getD r m 0 ≡ afterEdge (now (frames .entry)) dom span m (getD wanted m 0) e) ⌝ }
+{
+    let mut entries = wanted;
+    note(&mut entries, e, dom, span, frames);
+    entries
 }
 
 // The entries after one edge.

@@ -1,37 +1,29 @@
 -- `expected_entries` meets its contract: the edges from i on are still to be noted.
-use Prim.Native.Nat.{ℕ, _+_, _<_, _-_}
-use mathlib.Core.List.{map}
+use Prim.Native.Nat.{_<_, _≤_, _-_}
+use mathlib.Core.List.{[], map}
 use mathlib.Core.Path.{_≡_, refl, _∙_, sym, ap}
 use native.Mathlib.Omega.{arith}
-use lib.ListN.{length, getD, drop, getD-replicate}
+use lib.ListN.{length, getD, length-map, List·getD-map}
 use borrow.Author.Needs.{needs}
 use denote.Ref.{now}
 use Rattle.edge.specs.Edge.{edgeOf}
 use Rattle.layout.specs.Size.{entries}
-use Rattle.exact.specs.Exact.{afterEdge, afterEdges, expected}
-use Rattle.exact.proofs.After.{after-at, after-end}
+use Rattle.exact.specs.Exact.{afterEdge}
+use Rattle.exact.proofs.SoFar.{Noted, none-noted, one-noted, all-noted}
 use Rattle.exact.proofs.expected_entries.Statement.{statement}
 use Rattle.exact.proofs.expected_entries.Tie as tie
 
 abbrev Inv-loop : tie.InvT-loop
 Inv-loop dom span edges frames wanted₀ i₀ i-end wanted i =
-    (length wanted ≡ entries)
-    × ((m : ℕ) →
-    m < entries →
-    expected frames dom span (map edgeOf edges) m
-    ≡ afterEdges frames dom span m (getD wanted m 0) (map edgeOf (drop i edges)))
+    (length wanted ≡ entries) × Noted frames dom span (map edgeOf edges) i wanted
 
 abbrev μ-loop : tie.MeasureT-loop
 μ-loop dom span edges frames wanted₀ i₀ i-end wanted i = i-end - i
 
 loop-holds : tie.Need-loop-holds Inv-loop μ-loop
 loop-holds c =
-    let a = c .args in (
-      refl,
-      λ m inside.
-          ap (λ k. afterEdges (now (a .frames)) (a .dom) (a .span) m k (map edgeOf (now (a .edges))))
-          (sym (getD-replicate entries m 0 0 inside)),
-    )
+    let a = c .args in
+    (refl, none-noted (now (a .frames)) (a .dom) (a .span) (map edgeOf (now (a .edges))))
 
 slice-aggregate-note : tie.Need-slice-aggregate-note Inv-loop μ-loop
 slice-aggregate-note c = search needs
@@ -60,22 +52,25 @@ loop-again c =
     let o = v .before in
     let in-loop = o .before .before .before in
     let h = in-loop .before in
-    let a = h .before .args in (
+    let a = h .before .args in
+    let rows = now (a .edges) in
+    let i = h .loop .i in
+    let within : i < length (map edgeOf rows) = rw (length-map rows edgeOf) (in-loop .loop-test .taken) in
+    let read = o .of .ensures ∙ sym (List·getD-map edgeOf rows i []) in (
       v .note .kept .0 ∙ h .loop .inv .0,
-      λ m inside.
+      one-noted (now (a .frames)) (a .dom) (a .span) (map edgeOf rows) i (h .loop .wanted) (v .note .last .0) (edgeOf []) within (h .loop .inv .1)
+      (λ m inside.
           let fits : m < length (h .loop .wanted) = omega (arith, inside, h .loop .inv .0) in
-          h .loop .inv .1 m inside
-          ∙ after-at _ _ _ m (now (a .edges)) (h .loop .i) _ (in-loop .loop-test .taken)
-          ∙ ap (λ k. afterEdges (now (a .frames)) (a .dom) (a .span) m k (map edgeOf (drop (h .loop .i + 1) (now (a .edges)))))
-          (ap (afterEdge (now (a .frames)) (a .dom) (a .span) m (getD (h .loop .wanted) m 0)) (sym (o .of .ensures))
-          ∙ sym (v .note .ensures m fits)),
+          v .note .ensures m fits ∙ ap (afterEdge (now (a .frames)) (a .dom) (a .span) m (getD (h .loop .wanted) m 0)) read),
     )
 
 returns : tie.Need-returns Inv-loop μ-loop
 returns c =
     let h = c .before in
     let a = h .before .args in
-    λ m inside. sym (h .loop .inv .1 m inside ∙ after-end _ _ _ m (now (a .edges)) (h .loop .i) _ (c .loop-test .left))
+    let rows = now (a .edges) in
+    let past : length (map edgeOf rows) ≤ h .loop .i = rw (length-map rows edgeOf) (c .loop-test .left) in
+    all-noted (now (a .frames)) (a .dom) (a .span) (map edgeOf rows) (h .loop .i) (h .loop .wanted) past (h .loop .inv .1)
 
 pub expected-entries-spec : {M : Type 1} → statement M
 expected-entries-spec =
