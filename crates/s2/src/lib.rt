@@ -202,7 +202,7 @@ pub extern "C" fn s2_walk(
         l2_sup_pa,
         l2_dev_pa,
     ];
-    told(walk::walk(arena, tables, ipa).words(), values)
+    told(walker::walk(arena, tables, ipa).words(), values)
 }
 
 // Rows 1 to 12 and 18 to 22.
