@@ -1,5 +1,5 @@
--- What a walker owns is what its slice owns: its addresses own only facts, which are had for nothing wherever they are asked.
--- As a field an array denotes `map` of its elements' own way in, here `λ n. n`. That this is the list itself is `map-id`, and no computation.
+-- What a walker owns is what its slice owns (`shuts`, `opens`): its six addresses own only facts, which are made anew wherever they are asked.
+-- A field that is an array denotes `map` of its elements' own way in, here `λ n. n`. That this is the list itself is `map-id`, and no computation.
 -- Assumes nothing.
 use mathlib.Core.Path.{_≡_, refl, sym, subst}
 use Prim.Native.Nat.{ℕ}
@@ -19,7 +19,7 @@ use denote.Laws.{Is, Makes, Lawful}
 use denote.Plain.{uint-makes, uint-lawful}
 use denote.Builtin.{u64}
 use denote.Array.{Array, arrayVal, array-makes, array-lawful}
-use denote.Ref.{RefT, NamedLft}
+use denote.Ref.{RefT}
 use denote.Signature.{Slot, plain, shrSliceOf, namedLft}
 use denote.Signature.Array.{arrayOf}
 use denote.Slice.{sliceVal, ShrSlice}
@@ -79,8 +79,9 @@ is-held κ s ts p q = ((wordsVal s ∷ [], (sixVal ts ∷ [], tt)), (refl, (p, (
 
 pub is-six : (κ : Lft) (d : Walker) (vs : List Val) → Is (B (κ, tt)) d vs → Is Six (d .tables) (sixVal (d .tables) ∷ [])
 is-six κ d vs p =
+    let field : Is Six (map (λ (n : ℕ). n) (d .tables)) (p .0 .1 .0) = p .1 .1 .1 .0 in
     subst (λ (xs : List ℕ). Is Six xs (sixVal (d .tables) ∷ [])) (map-id (d .tables))
-    (subst (Is Six (map (λ (n : ℕ). n) (d .tables))) (LL.array-laws u64-field LL.u64-laws 6 .low-is (d .tables) (p .0 .1 .0) (p .1 .1 .1 .0)) (p .1 .1 .1 .0))
+    (subst (Is Six (map (λ (n : ℕ). n) (d .tables))) (LL.array-laws u64-field LL.u64-laws 6 .low-is (d .tables) _ field) field)
 
 module _ {M : Type 1} (𝓤 : URA M) (H : Heap 𝓤) (A : Atoms 𝓤) (W : Given 𝓤 H A) where
   pub six-makes : Makes 𝓤 H A Six (Is Six)
