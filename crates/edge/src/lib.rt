@@ -4,7 +4,8 @@ ghost use mathlib.Core.Path.{_≡_};
 ghost use Rattle.edge.specs.Edge.{edgeOf, permOf, owns, counts};
 ghost use Rattle.edge.specs.Grant.{grantOf, covers};
 
-// A page-table entry: slot `slot` of table `parent` references `child`.
+// A page-table entry: slot `slot` of table `parent` references `child`. Callers in C and Rust lend arrays of it.
+#[repr(C)]
 pub struct Edge {
     pub parent: u32,
     pub slot: u32,

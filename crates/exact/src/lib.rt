@@ -25,7 +25,12 @@ pub fn check_exact(
 ) -> Verdict
     ensures { λ r. ⌜ outcomeOf r ≡ first (exactRows (now (frames .entry)) dom span (map edgeOf (now (edges .entry))) (now (leaves .entry))) ⌝ }
 {
-    compare(dom, leaves, span, expected_entries(dom, span, edges, frames))
+    compare(
+        dom,
+        leaves,
+        span,
+        expected_entries(dom, span, edges, frames),
+    )
 }
 
 // Rows 2, 3 and 25: whether the map holds the entries wanted.

@@ -6,6 +6,7 @@ use lib.Dec.{eqb}
 use Rattle.arena.specs.Over.{Over}
 use Rattle.authority.specs.Authority.{authorityRows}
 use Rattle.edge.specs.Edge.{edgeOf}
+use Rattle.edge.specs.declared.Edge.{Edge}
 use Rattle.edge.specs.Grant.{grantOf}
 use Rattle.encode.specs.Encoding.{left}
 use Rattle.exact.specs.Exact.{exactRows}
@@ -26,6 +27,10 @@ use Rattle.verify_rows.specs.Verifying.{verifyRows}
 use Rattle.walk.specs.Descent.{wordsOf}
 use Rattle.walk.specs.Walk.{walkOf}
 
+-- the edges that are lent as rows
+abbrev pub edgesOf : List (List ℕ) → List Edge
+edgesOf = map edgeOf
+
 abbrev pub validateAnswer : List ℕ → List ℕ
 validateAnswer numbers = outcomeWords (first (refusals (layoutOf numbers)))
 
@@ -33,8 +38,8 @@ validateAnswer numbers = outcomeWords (first (refusals (layoutOf numbers)))
 abbrev pub fillingWords : Filling → List (List ℕ)
 fillingWords f = outcomeWords (f .outcome) ∷ f .base ∷ f .sup ∷ []
 
-abbrev pub fillAnswer : List (List ℕ) → List (List ℕ) → ℕ → List ℕ → List ℕ → List (List ℕ)
-fillAnswer edges frames dom base sup = fillingWords (filled frames dom (map edgeOf edges) base sup)
+abbrev pub fillAnswer : List Edge → List (List ℕ) → ℕ → List ℕ → List ℕ → List (List ℕ)
+fillAnswer edges frames dom base sup = fillingWords (filled frames dom edges base sup)
 
 abbrev pub encodeOutcome : List ℕ → List ℕ → List ℕ → List ℕ → Outcome
 encodeOutcome numbers base sup arena = first (arenaGuardRows outputLimit arena base sup (layoutOf numbers))
@@ -70,6 +75,6 @@ authorizedAnswer dom leaves frames grants = outcomeWords (first (authorityRows f
 abbrev pub spanNumbered : ℕ → Span
 spanNumbered n = pick (eqb n 0) Base Super
 
-abbrev pub exactAnswer : ℕ → List ℕ → ℕ → List (List ℕ) → List (List ℕ) → List ℕ
+abbrev pub exactAnswer : ℕ → List ℕ → ℕ → List Edge → List (List ℕ) → List ℕ
 exactAnswer dom leaves isSuper edges frames =
-    outcomeWords (first (exactRows frames dom (spanNumbered isSuper) (map edgeOf edges) leaves))
+    outcomeWords (first (exactRows frames dom (spanNumbered isSuper) edges leaves))

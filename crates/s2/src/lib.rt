@@ -1,5 +1,6 @@
 // The calls of board code: numbers and slices in, document 01's number and the carried values out. A layout is its sixteen fields in
 // number order, with whether there is an image just before the image. A call returns 0 where it accepts.
+use edge::Edge;
 use layout::Layout;
 use p2m::Span;
 use refusal::Verdict;
@@ -8,7 +9,7 @@ ghost use mathlib.Core.List.{[], _∷_};
 ghost use mathlib.Core.Path.{_≡_};
 ghost use lib.ListN.{getD};
 ghost use Rattle.refusal.specs.Outcome.{outcomeOf, outcomeWords};
-ghost use Rattle.s2.specs.Answers.{validateAnswer, fillAnswer, EncodeAnswer, StepAnswer, walkAnswer, verifyAnswer, exposedAnswer, authorizedAnswer, spanNumbered, exactAnswer};
+ghost use Rattle.s2.specs.Answers.{edgesOf, validateAnswer, fillAnswer, EncodeAnswer, StepAnswer, walkAnswer, verifyAnswer, exposedAnswer, authorizedAnswer, spanNumbered, exactAnswer};
 
 // Rows 4 to 12.
 #[no_mangle]
@@ -66,7 +67,7 @@ pub extern "C" fn s2_fill(
     sup: &mut [u8],
     values: &mut [u64; 8],
 ) -> u32
-    ensures { λ r. ⌜ ((r ∷ now (values .exit)) ∷ now (base .exit) ∷ now (sup .exit) ∷ []) ≡ fillAnswer (now (edges .entry)) (now (frames .entry)) dom (now (base .entry)) (now (sup .entry)) ⌝ }
+    ensures { λ r. ⌜ ((r ∷ now (values .exit)) ∷ now (base .exit) ∷ now (sup .exit) ∷ []) ≡ fillAnswer (edgesOf (now (edges .entry))) (now (frames .entry)) dom (now (base .entry)) (now (sup .entry)) ⌝ }
 {
     answer(
         leafmap::leaf_map_from_edges(edges, frames, dom, base, sup),
@@ -330,10 +331,29 @@ pub extern "C" fn s2_exact(
     frames: &[[u32; 2]],
     values: &mut [u64; 8],
 ) -> u32
-    ensures { λ r. ⌜ (r ∷ now (values .exit)) ≡ exactAnswer dom (now (map .entry)) «is_super» (now (edges .entry)) (now (frames .entry)) ⌝ }
+    ensures { λ r. ⌜ (r ∷ now (values .exit)) ≡ exactAnswer dom (now (map .entry)) «is_super» (edgesOf (now (edges .entry))) (now (frames .entry)) ⌝ }
 {
     let span = span_numbered(is_super);
     answer(exact::check_exact(dom, map, span, edges, frames), values)
+}
+
+// The same, from edges as records.
+#[no_mangle]
+pub extern "C" fn s2_exact_edges(
+    dom: u16,
+    map: &[u8],
+    is_super: u32,
+    edges: &[Edge],
+    frames: &[[u32; 2]],
+    values: &mut [u64; 8],
+) -> u32
+    ensures { λ r. ⌜ (r ∷ now (values .exit)) ≡ exactAnswer dom (now (map .entry)) «is_super» (now (edges .entry)) (now (frames .entry)) ⌝ }
+{
+    let span = span_numbered(is_super);
+    answer(
+        exact_edges::check_exact(dom, map, span, edges, frames),
+        values,
+    )
 }
 
 fn span_numbered(is_super: u32) -> Span
