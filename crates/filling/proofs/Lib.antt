@@ -2,4 +2,5 @@ pub mod Both
 pub mod Filled
 pub mod Onward
 pub mod Placed
+pub mod SoFar
 pub mod Zeros

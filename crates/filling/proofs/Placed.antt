@@ -1,14 +1,13 @@
 -- Edges placed in order: one is placed before the others, and after a refusal nothing is.
 use Prim.Native.Nat.{ℕ, _+_, _≤_, _<_}
-use mathlib.Core.List.{List, [], _∷_, map}
-use mathlib.Core.Path.{_≡_, refl, sym, ap, _∙_}
+use mathlib.Core.List.{List, [], _∷_}
+use mathlib.Core.Path.{_≡_, refl, ap, _∙_}
 use native.Mathlib.Numerals.{add-one}
 use lib.ListN.{length, getD, drop, drop-of-length-le}
 use lib.Seq.{drop-cons}
-use Rattle.edge.specs.Edge.{edgeOf}
 use Rattle.edge.specs.declared.Edge.{Edge}
 use Rattle.refusal.specs.Table.{Row, accepted, refused}
-use Rattle.filling.specs.Filling.{Filling, placed, placedAll}
+use Rattle.filling.specs.Filling.{Filling, placed, placedNext, placedAll}
 use Rattle.filling.proofs.Onward.{on, off}
 
 module _ (frames : List (List ℕ)) (dom : ℕ) where
@@ -28,17 +27,14 @@ module _ (frames : List (List ℕ)) (dom : ℕ) where
   place-stop (x ∷ es) f r e =
       ap (placedAll frames dom es) (off (λ h. placed frames dom h x) f r e) ∙ place-stop es f r e
 
-  module _ (rows : List (List ℕ)) (i : ℕ) (f : Filling) where
+  module _ (edges : List Edge) (i : ℕ) (f : Filling) where
     pub place-at :
-        i < length rows → f .outcome ≡ accepted →
-        placedAll frames dom (map edgeOf (drop i rows)) f
-        ≡ placedAll frames dom (map edgeOf (drop (i + 1) rows)) (placed frames dom f (edgeOf (getD rows i [])))
-    place-at inside a =
-        ap (λ xs. placedAll frames dom (map edgeOf xs) f) (drop-cons rows i [] inside)
-        ∙ place-next (edgeOf (getD rows i [])) _ f a
-        ∙ ap (λ k. placedAll frames dom (map edgeOf (drop k rows)) (placed frames dom f (edgeOf (getD rows i []))))
-        (sym (add-one i))
+        (d : Edge) → i < length edges →
+        placedAll frames dom (drop i edges) f
+        ≡ placedAll frames dom (drop (i + 1) edges) (placedNext frames dom f (getD edges i d))
+    unfolding placedAll
+    place-at d inside = rw (add-one, drop-cons edges i d inside)
 
-    pub place-end : length rows ≤ i → placedAll frames dom (map edgeOf (drop i rows)) f ≡ f
-    place-end outside =
-        ap (λ xs. placedAll frames dom (map edgeOf xs) f) (drop-of-length-le rows outside) ∙ place-none f
+    pub place-end : length edges ≤ i → placedAll frames dom (drop i edges) f ≡ f
+    unfolding placedAll
+    place-end outside = rw (drop-of-length-le edges outside)

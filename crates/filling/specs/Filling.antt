@@ -65,9 +65,13 @@ unless (refused r) f g = g
 unfoldable pub onward : (Filling → Filling) → Filling → Filling
 onward step f = unless (f .outcome) (step f) f
 
+-- one edge more
+abbrev pub placedNext : List (List ℕ) → ℕ → Filling → Edge → Filling
+placedNext frames dom f e = onward (λ h. placed frames dom h e) f
+
 -- the edges in order, up to the first that is refused
 unfoldable pub placedAll : List (List ℕ) → ℕ → List Edge → Filling → Filling
-placedAll frames dom edges f = foldl (λ g e. onward (λ h. placed frames dom h e) g) f edges
+placedAll frames dom edges f = foldl (placedNext frames dom) f edges
 
 -- row 17: a frame in both maps
 unfoldable pub row17 : List ℕ → ℕ → ℕ → List Row
@@ -79,6 +83,11 @@ conflicts f = filling (f .base) (f .sup) (first (eachFrom (row17 (f .sup)) 0 (f 
 
 abbrev pub cleared : ℕ → ℕ → Filling
 cleared n m = filling (replicate n 0) (replicate m 0) accepted
+
+-- lent maps: row 2 comes first and changes nothing; else both are cleared
+unfoldable pub started : List ℕ → List ℕ → Filling
+started base sup =
+    onward (λ f. cleared (length base) (length sup)) (filling base sup (first (lengthRows base sup)))
 
 -- from cleared maps of these lengths
 unfoldable pub filledInto : List (List ℕ) → ℕ → List Edge → ℕ → ℕ → Filling

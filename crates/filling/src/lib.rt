@@ -8,18 +8,52 @@ ghost use Prim.Native.Nat.{ℕ, min};
 ghost use mathlib.Core.List.{[]};
 ghost use mathlib.Core.Path.{_≡_};
 ghost use lib.ListN.{length, getD, replicate};
-ghost use Rattle.filling.specs.Filling.{filling, put, putIn, placed, row17};
+ghost use Rattle.filling.specs.Filling.{filling, put, putIn, placed, placedNext, onward, row17, conflicts, started};
 ghost use Rattle.refusal.specs.Outcome.{outcomeOf};
 ghost use Rattle.refusal.specs.Table.{accepted, first, eachFrom};
 
-// One edge: the span is its parent's, since a frame does not know how much of the address space maps it.
-pub fn place_edge(
+// Row 2, before any change; then both maps are cleared.
+pub fn start(base: &mut [u8], sup: &mut [u8]) -> Verdict
+    ensures { λ r. ⌜ filling (now (base .exit)) (now (sup .exit)) (outcomeOf r) ≡ started (now (base .entry)) (now (sup .entry)) ⌝ }
+{
+    let lens = lent::map_lens(base, sup);
+    let Verdict::Accepted = lens else {
+        return lens;
+    };
+    clear(base);
+    clear(sup);
+    Verdict::Accepted
+}
+
+// One edge more, unless a row has refused.
+pub fn place_next(
+    so_far: Verdict,
     e: Edge,
     frames: &[[u32; 2]],
     dom: u16,
     base: &mut [u8],
     sup: &mut [u8],
 ) -> Verdict
+    ensures { λ r. ⌜ filling (now (base .exit)) (now (sup .exit)) (outcomeOf r) ≡ placedNext (now (frames .entry)) dom (filling (now (base .entry)) (now (sup .entry)) (outcomeOf «so_far»)) e ⌝ }
+{
+    let Verdict::Accepted = so_far else {
+        return so_far;
+    };
+    place_edge(e, frames, dom, base, sup)
+}
+
+// Row 17, unless a row has refused.
+pub fn finish(so_far: Verdict, base: &[u8], sup: &[u8]) -> Verdict
+    ensures { λ r. ⌜ filling (now (base .entry)) (now (sup .entry)) (outcomeOf r) ≡ onward conflicts (filling (now (base .entry)) (now (sup .entry)) (outcomeOf «so_far»)) ⌝ }
+{
+    let Verdict::Accepted = so_far else {
+        return so_far;
+    };
+    no_conflict(base, sup)
+}
+
+// One edge: the span is its parent's, since a frame does not know how much of the address space maps it.
+fn place_edge(e: Edge, frames: &[[u32; 2]], dom: u16, base: &mut [u8], sup: &mut [u8]) -> Verdict
     ensures { λ r. ⌜ filling (now (base .exit)) (now (sup .exit)) (outcomeOf r) ≡ placed (now (frames .entry)) dom (filling (now (base .entry)) (now (sup .entry)) accepted) e ⌝ }
 {
     if !e.counts(frames, dom) {
@@ -52,7 +86,7 @@ fn put(map: &mut [u8], e: Edge) -> Verdict
 }
 
 // Every entry is unmapped, so that a lent map keeps no leaf of another domain.
-pub fn clear(map: &mut [u8])
+fn clear(map: &mut [u8])
     ensures { λ _. ⌜ now (map .exit) ≡ replicate (length (now (map .entry))) 0 ⌝ }
 {
     for i in 0..map.len() {
@@ -62,7 +96,7 @@ pub fn clear(map: &mut [u8])
 
 // Row 17: a frame has one span, or it would need two places in memory. The pass that finds no frame has no branch to take, and most
 // maps need no other.
-pub fn no_conflict(base: &[u8], sup: &[u8]) -> Verdict
+fn no_conflict(base: &[u8], sup: &[u8]) -> Verdict
     ensures { λ r. ⌜ outcomeOf r ≡ first (eachFrom (row17 (now (sup .entry))) 0 (now (base .entry))) ⌝ }
 {
     if overlap(base, sup) == 0 {

@@ -1,58 +1,110 @@
--- `leaf_map_from_edges` meets its contract: row 2 comes first.
-use mathlib.Core.Path.{_∙_, sym}
+-- `leaf_map_from_edges` meets its contract: the edges from i on are placed into the maps as they are.
+use Prim.Native.Nat.{_≤_, _<_, _-_}
+use mathlib.Core.List.{[], map}
+use mathlib.Core.Path.{_≡_, refl, _∙_, sym, ap}
+use lib.ListN.{length, length-map, List·getD-map}
 use borrow.Author.Needs.{needs}
-use Rattle.filling.proofs.Filled.{too-long, fitting}
+use denote.Ref.{now}
+use Rattle.edge.specs.Edge.{edgeOf}
+use Rattle.filling.proofs.SoFar.{PlacedTo, one-placed, all-placed}
+use Rattle.filling.specs.Filling.{filling, placedNext}
+use Rattle.refusal.specs.Outcome.{outcomeOf}
 use Rattle.leafmap.proofs.leaf_map_from_edges.Statement.{statement}
 use Rattle.leafmap.proofs.leaf_map_from_edges.Tie as tie
 
-map-lens-requires : tie.Need-map-lens-requires
-map-lens-requires c κs = search needs
+abbrev Inv-loop : tie.InvT-loop
+Inv-loop edges frames dom base₀ sup₀ so-far₀ i₀ i-end base sup so-far i =
+    PlacedTo frames dom (map edgeOf edges) (filling base₀ sup₀ (outcomeOf so-far₀)) i base sup (outcomeOf so-far)
+    × (length base ≡ length base₀)
+    × (length sup ≡ length sup₀)
 
-enum-told : tie.Need-enum-told
-enum-told c = search needs
+abbrev μ-loop : tie.MeasureT-loop
+μ-loop edges frames dom base₀ sup₀ so-far₀ i₀ i-end base sup so-far i = i-end - i
 
-enum-told-2 : tie.Need-enum-told-2
-enum-told-2 c = search needs
+start-requires : tie.Need-start-requires Inv-loop μ-loop
+start-requires c κs = search needs
 
-same-length : tie.Need-same-length
-same-length c = search needs
+loop-holds : tie.Need-loop-holds Inv-loop μ-loop
+loop-holds c = (refl, refl, refl)
 
-same-length-2 : tie.Need-same-length-2
-same-length-2 c = search needs
+mul-of : tie.Need-mul-of Inv-loop μ-loop
+mul-of c = search needs
 
-returns : tie.Need-returns
+shared-slice-copy-out-of : tie.Need-shared-slice-copy-out-of Inv-loop μ-loop
+shared-slice-copy-out-of c = search needs
+
+of-requires : tie.Need-of-requires Inv-loop μ-loop
+of-requires c κs = search needs
+
+place-next-requires : tie.Need-place-next-requires Inv-loop μ-loop
+place-next-requires c κs = search needs
+
+add-i : tie.Need-add-i Inv-loop μ-loop
+add-i c = search needs
+
+loop-less : tie.Need-loop-less Inv-loop μ-loop
+loop-less c = search needs
+
+loop-again : tie.Need-loop-again Inv-loop μ-loop
+loop-again c =
+    let v = c .before .before .before .before in
+    let o = v .before .before .before in
+    let in-loop = o .before .before in
+    let h = in-loop .before in
+    let a = h .before .before .before .before .before .before .before .before .before .before .args in
+    let rows = now (a .edges) in
+    let i = h .loop .i in
+    let within : i < length (map edgeOf rows) = rw (length-map rows edgeOf) (in-loop .loop-test .taken) in
+    let read = o .of .ensures ∙ sym (List·getD-map edgeOf rows i []) in
+    let so-far = filling (h .loop .base) (h .loop .sup) (outcomeOf (h .loop .so-far)) in (
+      one-placed (now (a .frames)) (a .dom) (map edgeOf rows) _ i (h .loop .base) (h .loop .sup) _ _ (outcomeOf (h .loop .so-far)) _
+          (edgeOf []) within (h .loop .inv .0)
+          (v .place-next .ensures ∙ ap (placedNext (now (a .frames)) (a .dom) so-far) read),
+      v .place-next .kept .1 .1 .1 .1 .0 ∙ h .loop .inv .1,
+      v .place-next .kept .1 .1 .1 .1 .1 .0 ∙ h .loop .inv .2,
+    )
+
+finish-requires : tie.Need-finish-requires Inv-loop μ-loop
+finish-requires c κs = search needs
+
+same-length : tie.Need-same-length Inv-loop μ-loop
+same-length c =
+    let h = c .before .before .before .before in
+    h .loop .inv .1 ∙ h .before .before .before .before .before .start .kept .0
+
+same-length-2 : tie.Need-same-length-2 Inv-loop μ-loop
+same-length-2 c =
+    let h = c .before .before .before .before in
+    h .loop .inv .2 ∙ h .before .before .before .before .before .start .kept .1 .0
+
+returns : tie.Need-returns Inv-loop μ-loop
 returns c =
-    let v = c .before .before .map-lens in
-    let refused = c .enum-told2 .given in
-    too-long _ _ _ _ _ (v .result) (v .ensures) (refused .0 .0) (refused .1)
-
-fill-requires : tie.Need-fill-requires
-fill-requires c κs = search needs
-
-same-length-3 : tie.Need-same-length-3
-same-length-3 c = search needs
-
-same-length-4 : tie.Need-same-length-4
-same-length-4 c = search needs
-
-returns-2 : tie.Need-returns-2
-returns-2 c =
-    let f = c .before .before .before .before in
-    let told = f .before .before .before in
-    let v = told .before .before .map-lens in
-    f .fill .ensures ∙ sym (fitting _ _ _ _ _ (v .result) (v .ensures) (told .enum-told .given .1))
+    let left = c .before .before .before in
+    let h = left .before in
+    let begun = h .before .before .before .before .before in
+    let a = begun .before .before .before .before .before .args in
+    let rows = now (a .edges) in
+    let past : length (map edgeOf rows) ≤ h .loop .i = rw (length-map rows edgeOf) (left .loop-test .left) in
+    all-placed (now (a .frames)) (a .dom) (map edgeOf rows) _ (now (a .base)) (now (a .sup)) (begun .start .ensures) (h .loop .i)
+    (h .loop .base) (h .loop .sup) (outcomeOf (h .loop .so-far)) (outcomeOf (c .finish .result)) past (h .loop .inv .0)
+    (c .finish .ensures)
 
 pub leaf-map-from-edges-spec : {M : Type 1} → statement M
 leaf-map-from-edges-spec =
     tie.close
     (tie.spec
-    map-lens-requires
-    enum-told
-    enum-told-2
+    Inv-loop
+    μ-loop
+    start-requires
+    loop-holds
+    mul-of
+    shared-slice-copy-out-of
+    of-requires
+    place-next-requires
+    add-i
+    loop-less
+    loop-again
+    finish-requires
     same-length
     same-length-2
-    returns
-    fill-requires
-    same-length-3
-    same-length-4
-    returns-2)
+    returns)
