@@ -3,7 +3,8 @@
  * A call returns 0 where it accepts, else the number of document 01's row that refuses. `values` always has all its eight places
  * written: the values that the row carries, in document 01's order, and zeros after them. Where no row refuses, s2_walk and s2_exposed
  * tell there what they find, and all other calls leave zeros. An optional value is 1 and the value, or 0 and zeros. A call that refuses
- * changes nothing but `values`; s2_fill alone leaves in both maps, on 15 and 16, the edges before the failing one, and on 17 all edges.
+ * changes nothing but `values`; s2_fill and s2_fill_edges alone leave in both maps, on 15 and 16, the edges before the failing one, and on 17
+ * all edges.
  *
  * Nothing is asked of the numbers. Each pointer is aligned, not null, and to as many elements as the length beside it says; what a call
  * may write overlaps nothing else that it is lent.
@@ -43,6 +44,7 @@
 #ifndef DERVHALT_S2_H
 #define DERVHALT_S2_H
 
+#include <stdbool.h>
 #include <stddef.h>
 #include <stdint.h>
 
@@ -84,6 +86,16 @@ extern "C" {
     uint64_t sup_wx_exempt, \
     uint64_t sup_frames
 
+/* An edge as a record of sixteen bytes. A flag's byte is 0 or 1; the last byte is padding and may be any. */
+struct s2_edge {
+    uint32_t parent;
+    uint32_t slot;
+    uint32_t child;
+    bool writable;
+    bool leaf;
+    bool execute;
+};
+
 /* Whether the layout can be encoded: rows 4 to 12. */
 uint32_t s2_validate(S2_LAYOUT, uint64_t values[8]);
 
@@ -91,6 +103,15 @@ uint32_t s2_validate(S2_LAYOUT, uint64_t values[8]);
  * three are zero for no and all else for yes; a frame is owner and kind. */
 uint32_t s2_fill(
     const uint32_t (*edges)[6], size_t edge_count,
+    const uint32_t (*frames)[2], size_t frame_count,
+    uint16_t dom,
+    uint8_t *base, size_t base_len,
+    uint8_t *sup, size_t sup_len,
+    uint64_t values[8]);
+
+/* The same, from edges as records. They are read in order and not kept. */
+uint32_t s2_fill_edges(
+    const struct s2_edge *edges, size_t edge_count,
     const uint32_t (*frames)[2], size_t frame_count,
     uint16_t dom,
     uint8_t *base, size_t base_len,
@@ -154,6 +175,15 @@ uint32_t s2_exact(
     const uint8_t *map, size_t map_len,
     uint32_t is_super,
     const uint32_t (*edges)[6], size_t edge_count,
+    const uint32_t (*frames)[2], size_t frame_count,
+    uint64_t values[8]);
+
+/* The same, from edges as records. They are read in order and not kept. */
+uint32_t s2_exact_edges(
+    uint16_t dom,
+    const uint8_t *map, size_t map_len,
+    uint32_t is_super,
+    const struct s2_edge *edges, size_t edge_count,
     const uint32_t (*frames)[2], size_t frame_count,
     uint64_t values[8]);
 

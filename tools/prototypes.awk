@@ -1,5 +1,21 @@
-# Prints the C prototype of each exported function of a Rattle file, one to a line, as a C preprocessor leaves it.
-# awk -f tools/prototypes.awk crates/s2/src/lib.rt
+# Prints the C prototype of each exported function of the Rattle files, one to a line, as a C preprocessor leaves it, and each struct
+# that they may lend, with commas in the place of semicolons.
+# awk -f tools/prototypes.awk crates/edge/src/lib.rt crates/s2/src/lib.rt
+
+/^#\[repr\(C\)\]/ { lent = 1 }
+
+lent && /^pub struct/ { text = record($3) " {" }
+
+lent && /^    pub / {
+    sub(/:/, "", $2)
+    sub(/,/, "", $3)
+    text = text " " number($3) " " $2 ","
+}
+
+lent && /^}/ {
+    print text " }"
+    lent = 0
+}
 
 /^pub extern "C" fn/ { text = ""; exported = 1 }
 
@@ -37,14 +53,16 @@ function parameter(text, pair, name, type, constant, length_of) {
     constant = type ~ /^&mut / ? "" : "const "
     sub(/^&(mut )?\[/, "", type)
     sub(/\]$/, "", type)
+    # A slice of rows or structs: their count has the name of one of them.
+    length_of = name
+    sub(/s$/, "_count", length_of)
     if (type ~ /^\[/) {
-        # A slice of rows: their count has the name of one of them.
-        length_of = name
-        sub(/s$/, "_count", length_of)
         gsub(/[\[\]]/, "", type)
         split(type, pair, /; /)
         return constant number(pair[1]) " (*" name ")[" pair[2] "], size_t " length_of
     }
+    if (type ~ /^[A-Z]/)
+        return constant record(type) " *" name ", size_t " length_of
     if (type ~ /;/) {
         split(type, pair, /; /)
         return constant number(pair[1]) " " name "[" pair[2] "]"
@@ -54,5 +72,11 @@ function parameter(text, pair, name, type, constant, length_of) {
 
 function number(type) {
     gsub(/[ {]/, "", type)
+    if (type == "bool")
+        return "_Bool"
     return type ~ /^u/ ? "uint" substr(type, 2) "_t" : "unknown " type
+}
+
+function record(type) {
+    return "struct s2_" tolower(type)
 }

@@ -28,8 +28,12 @@ use Rattle.refusal.specs.declared.Verdict.{Verdict}
 use Rattle.refusal.proofs.Verdict as R
 use Rattle.s2.proofs.answer as answer
 
+-- the values, and a frame's row
 abbrev pub Eight : RattleType
 Eight = Array u64 8
+
+abbrev pub Frame : RattleType
+Frame = Array u32 2
 
 -- the values, lent at a place under a name, and what is owned of them
 abbrev pub lent : ℕ → ℕ → GName → List ℕ → RefT (List ℕ)

@@ -75,6 +75,24 @@ pub extern "C" fn s2_fill(
     )
 }
 
+// The same, from edges as records.
+#[no_mangle]
+pub extern "C" fn s2_fill_edges(
+    edges: &[Edge],
+    frames: &[[u32; 2]],
+    dom: u16,
+    base: &mut [u8],
+    sup: &mut [u8],
+    values: &mut [u64; 8],
+) -> u32
+    ensures { λ r. ⌜ ((r ∷ now (values .exit)) ∷ now (base .exit) ∷ now (sup .exit) ∷ []) ≡ fillAnswer (now (edges .entry)) (now (frames .entry)) dom (now (base .entry)) (now (sup .entry)) ⌝ }
+{
+    answer(
+        leafmap_edges::leaf_map_from_edges(edges, frames, dom, base, sup),
+        values,
+    )
+}
+
 // Rows 1 to 14. A refusal leaves every word of the arena as found.
 #[no_mangle]
 pub extern "C" fn s2_encode(

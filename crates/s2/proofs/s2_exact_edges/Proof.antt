@@ -19,10 +19,9 @@ use contract.Running.{givenOf, tables, tablesOf}
 use types.Kit.{Given, ‵, raw, _⊛_, some, given, later, ⋆, _$_, _∵_, !, qed, by, move, keep, drop, use0, use1, use2, split, join, pick, learn, fsplit, fjoin, suffices, frame, await, done}
 use types.Run.{look, init, forget, stop, hop, from, load, addr, and-then, no-more, assigns, land, returns, enter, alloc1, alloc0, params1, pass1, pass0, free1, free0}
 use sound.WpLaws.{FmC, fmOf, WpFn-mono}
-use denote.RattleType.{RattleType, owns}
+use denote.RattleType.{owns}
 use denote.Laws.{Is, shows}
 use denote.Plain.{uint-vals, uint-tells, uint-makes, uint-lawful}
-use denote.Array.{Array}
 use denote.Builtin.{u8, u16, u32, u64}
 use denote.Ref.{RefT, MutRef, now, ptr-vals, mut-tells}
 use denote.Slice.{sliceVal, ShrSlice, slice-vals, shr-slice-tells, shr-slice-lawful}
@@ -54,7 +53,7 @@ use Rattle.exact_edges.proofs.check_exact as check
 use Rattle.exact_edges.proofs.check_exact.Symbol as check-def
 use Rattle.exact_edges.proofs.check_exact.Symbol.{name as #check-exact}
 use Rattle.exact_edges.proofs.check_exact.Met as check-thm
-use Rattle.s2.proofs.Answered.{Eight, lent, Lent, last, Tells, Answer, to-answer, asks-answer, answered}
+use Rattle.s2.proofs.Answered.{Eight, Frame, lent, Lent, last, Tells, Answer, to-answer, asks-answer, answered}
 use Rattle.s2.proofs.answer.Symbol as answer-def
 use Rattle.s2.proofs.answer.Symbol.{name as #answer}
 use Rattle.s2.proofs.answer.Met as answer-thm
@@ -66,9 +65,6 @@ use Rattle.s2.proofs.s2_exact_edges.Key.{name as #s2-exact-edges}
 use Rattle.s2.proofs.s2_exact_edges as here
 use Rattle.s2.proofs.s2_exact_edges.Statement as stated
 use Rattle.s2.proofs.s2_exact_edges.Code as code
-
-abbrev Frame : RattleType
-Frame = Array u32 2
 
 -- the places of the signature
 abbrev map-slot : Slot 4
@@ -167,13 +163,13 @@ module _
         tells ∙ ap outcomeWords checked ∙ ap (λ (s : Span). outcomeWords (first (exactRows (now frames) dom s (now edges) (now leaves)))) spanned
 
     exits : (r : ℕ) (ws : List ℕ) (u : Val) → (r ∷ ws) ≡ exactAnswer dom (now leaves) n (now edges) (now frames)
-        → ent 𝓤 (⋆ 𝓤 H A ((‵ (flft κ₀ q₀) ⊛ (‵ (flft κ₁ q₁) ⊛ (‵ (flft κ₂ q₂) ⊛ ‵ ftrue))) ∷ (‵ (flft κ₃ q₃) ⊛ (‵ (last γ ws) ⊛ ‵ (u32 .own r (u ∷ [])))) ∷ [])) (Post u)
+        → ent 𝓤 (⋆ 𝓤 H A ((‵ (flft κ₀ q₀) ⊛ (‵ (flft κ₁ q₁) ⊛ (‵ (flft κ₂ q₂) ⊛ ‵ ftrue))) ∷ ‵ (flft κ₃ q₃) ∷ ‵ (last γ ws) ∷ ‵ (u32 .own r (u ∷ [])) ∷ [])) (Post u)
     exits r ws u e =
-        qed W ((‵ (flft κ₀ q₀) ⊛ (‵ (flft κ₁ q₁) ⊛ (‵ (flft κ₂ q₂) ⊛ ‵ ftrue))) ∷ (‵ (flft κ₃ q₃) ⊛ (‵ (last γ ws) ⊛ ‵ (u32 .own r (u ∷ [])))) ∷ []) ∵
+        qed W ((‵ (flft κ₀ q₀) ⊛ (‵ (flft κ₁ q₁) ⊛ (‵ (flft κ₂ q₂) ⊛ ‵ ftrue))) ∷ ‵ (flft κ₃ q₃) ∷ ‵ (last γ ws) ∷ ‵ (u32 .own r (u ∷ [])) ∷ []) ∵
         suffices ! _ (ends-at 𝓤 H A here.ended stayed (here.clauses 𝓤 H A mem run) W bound u r (tt, (tt, (tt, (tt, (tt, (ws, tt)))))) (tt, (tt, (tt, (tt, (tt, (tt, tt))))))) $ says ! e $
-        split ! $ move ! (1 ∷ []) $ split ! $ move ! (1 ∷ []) $ split ! $ move ! (4 ∷ []) $ split ! $
-        -- [κ₃'s token; the last values and the number; κ₂'s; true; κ₁'s, κ₀'s]
-        move ! (0 ∷ 3 ∷ []) $ join ! $ move ! (2 ∷ 0 ∷ []) $ join ! $ move ! (2 ∷ 0 ∷ []) $ join ! $ move ! (2 ∷ 0 ∷ []) $ join ! $ frame ! $ split ! $
+        split ! $ move ! (1 ∷ []) $ split ! $ move ! (1 ∷ []) $ split ! $
+        -- [κ₂'s token; true; κ₁'s, κ₀'s, κ₃'s; the last values; the number]
+        move ! (4 ∷ 1 ∷ []) $ join ! $ move ! (1 ∷ 0 ∷ []) $ join ! $ move ! (1 ∷ 0 ∷ []) $ join ! $ move ! (1 ∷ 0 ∷ []) $ join ! $ frame ! $
         -- [the last values; the number]: of the other parameters nothing is had
         nothing ! $ move ! (1 ∷ 0 ∷ []) $ fjoin ! $ nothing ! $ fjoin ! $ nothing ! $ fjoin ! $ nothing ! $ fjoin ! $ nothing ! $ fjoin ! $ nothing ! $ fjoin ! $ frame ! $ done !
 
@@ -219,8 +215,6 @@ module _
         -- each local's room, and that it dies
         keep ! (22 ∷ 23 ∷ 20 ∷ 21 ∷ 18 ∷ 19 ∷ 16 ∷ 17 ∷ 14 ∷ 15 ∷ 12 ∷ 13 ∷ 10 ∷ 11 ∷ 8 ∷ 9 ∷ 6 ∷ 7 ∷ 4 ∷ 5 ∷ 3 ∷ 2 ∷ 1 ∷ 0 ∷ []) $
         free1 ! $ free1 ! $ free1 ! $ free1 ! $ free1 ! $ free1 ! $ free1 ! $ free1 ! $ free1 ! $ free1 ! $ free0 ! $
-        -- [three tokens; κ₃'s; the last values; the number]
-        move ! (2 ∷ 3 ∷ []) $ join ! $ move ! (2 ∷ 0 ∷ []) $ join ! $ move ! (1 ∷ 0 ∷ []) $
         by ! (exits r ws w (is-answer span verdict r ws spanned checked tells)))))))))))))))))))))))))
 
 module _
