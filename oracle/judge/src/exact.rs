@@ -16,8 +16,8 @@ use crate::inputs::{words, Outcome};
 use crate::layout::{row, ACCEPTED, LEAST};
 use crate::maps::{self, too_long};
 use crate::port_maps;
-use crate::records::{system, Edge, Frame};
-use crate::{exact_faults, misread};
+use crate::records::{system, Edge, Form, Frame};
+use crate::{edge_record_faults, exact_faults, misread};
 
 /// A map with the edges that it is checked against.
 #[derive(Clone)]
@@ -33,29 +33,38 @@ pub struct Linked {
 /// The answers do not tell the span, so each has a function of its own to be counted by.
 pub const LAYER: Layer<Linked> = Layer {
     functions: &[
-        Function {
-            name: "check_exact, base",
-            op: (),
-            original: exact,
-            boundary: || Box::new(small_linked(Span::Base)),
-            sweep: |scale| Box::new(linked(Span::Base, scale)),
-            answers: ANSWERS,
-            least: LEAST,
-            recorded: false,
-        },
-        Function {
-            name: "check_exact, super",
-            op: (),
-            original: exact,
-            boundary: || Box::new(small_linked(Span::Super)),
-            sweep: |scale| Box::new(linked(Span::Super, scale)),
-            answers: ANSWERS,
-            least: LEAST,
-            recorded: false,
-        },
+        of_base("check_exact, base", Form::Rows),
+        of_super("check_exact, super", Form::Rows),
+        of_base("check_exact, base, from records", Form::Records),
+        of_super("check_exact, super, from records", Form::Records),
     ],
-    faults: &[misread::EXACT, exact_faults::FAULTS],
+    faults: &[
+        misread::EXACT,
+        exact_faults::FAULTS,
+        edge_record_faults::EXACT,
+    ],
 };
+
+const fn of_base(name: &'static str, form: Form) -> Function<Linked> {
+    Function {
+        name,
+        op: form,
+        original: exact,
+        boundary: || Box::new(small_linked(Span::Base)),
+        sweep: |scale| Box::new(linked(Span::Base, scale)),
+        answers: ANSWERS,
+        least: LEAST,
+        recorded: false,
+    }
+}
+
+const fn of_super(name: &'static str, form: Form) -> Function<Linked> {
+    Function {
+        boundary: || Box::new(small_linked(Span::Super)),
+        sweep: |scale| Box::new(linked(Span::Super, scale)),
+        ..of_base(name, form)
+    }
+}
 
 const ANSWERS: &[Answer] = &[
     ("accepted", row::<0>),
@@ -65,11 +74,11 @@ const ANSWERS: &[Answer] = &[
 ];
 
 impl Input for Linked {
-    type Op = ();
+    type Op = Form;
     type Reply = Outcome;
 
-    fn port(&self, (): ()) -> Outcome {
-        port_maps::exact(self)
+    fn port(&self, form: Form) -> Outcome {
+        port_maps::exact(self, form)
     }
 
     fn shown(&self) -> String {

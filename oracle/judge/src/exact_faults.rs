@@ -10,6 +10,7 @@ use crate::maps::{self, MAP_LEN};
 use crate::port::UNWRITTEN;
 use crate::port_maps;
 use crate::record_inputs::{L1, L2};
+use crate::records::Form;
 
 pub const FAULTS: &[Fault<Linked>] = &[
     fault(
@@ -135,7 +136,7 @@ pub const FAULTS: &[Fault<Linked>] = &[
             while next[0] == 25 {
                 *answer = next;
                 left.map[next[2] as usize] = next[4] as u8;
-                next = port_maps::exact(&left);
+                next = port_maps::exact(&left, Form::Rows);
             }
         },
     ),
@@ -167,7 +168,7 @@ pub const fn fault(
     Fault {
         name,
         slip,
-        op: (),
+        op: Form::Rows,
         alter,
     }
 }
@@ -176,7 +177,7 @@ pub const fn fault(
 fn without(x: &Linked, so: fn(&Outcome) -> bool) -> Outcome {
     let mut x = x.clone();
     loop {
-        let answer = port_maps::exact(&x);
+        let answer = port_maps::exact(&x, Form::Rows);
         if answer[0] != 25 || !so(&answer) {
             return answer;
         }

@@ -16,8 +16,8 @@ use crate::inputs::{hex, words, Outcome};
 use crate::layout::{row, ACCEPTED, LEAST};
 use crate::maps::{self, too_long};
 use crate::port_maps;
-use crate::records::{system, Edge, Frame};
-use crate::{conflict_faults, fill_faults, misread};
+use crate::records::{system, Edge, Form, Frame};
+use crate::{conflict_faults, edge_record_faults, fill_faults, misread};
 
 #[derive(Clone)]
 pub struct Filling {
@@ -38,18 +38,30 @@ pub struct Filled {
 }
 
 pub const LAYER: Layer<Filling> = Layer {
-    functions: &[Function {
-        name: "fill",
-        op: (),
+    functions: &[
+        function("fill", Form::Rows),
+        function("fill, from records", Form::Records),
+    ],
+    faults: &[
+        misread::FILL,
+        fill_faults::FAULTS,
+        conflict_faults::FAULTS,
+        edge_record_faults::FILL,
+    ],
+};
+
+const fn function(name: &'static str, form: Form) -> Function<Filling> {
+    Function {
+        name,
+        op: form,
         original: fill,
         boundary: || Box::new(small_fillings()),
         sweep: |scale| Box::new(fillings(scale)),
         answers: ANSWERS,
         least: LEAST,
         recorded: false,
-    }],
-    faults: &[misread::FILL, fill_faults::FAULTS, conflict_faults::FAULTS],
-};
+    }
+}
 
 const ANSWERS: &[Answer] = &[
     ("accepted", row::<0>),
@@ -60,11 +72,11 @@ const ANSWERS: &[Answer] = &[
 ];
 
 impl Input for Filling {
-    type Op = ();
+    type Op = Form;
     type Reply = Filled;
 
-    fn port(&self, (): ()) -> Filled {
-        port_maps::fill(self)
+    fn port(&self, form: Form) -> Filled {
+        port_maps::fill(self, form)
     }
 
     fn shown(&self) -> String {

@@ -9,7 +9,7 @@ use crate::maps::MAP_LEN;
 use crate::port::UNWRITTEN;
 use crate::port_maps;
 use crate::record_inputs::{L1, L2};
-use crate::records::{Edge, Frame};
+use crate::records::{Edge, Form, Frame};
 
 pub const FAULTS: &[Fault<Filling>] = &[
     fault(
@@ -197,7 +197,7 @@ pub const fn fault(
     Fault {
         name,
         slip,
-        op: (),
+        op: Form::Rows,
         alter,
     }
 }
@@ -225,7 +225,7 @@ fn refused(x: &Filling) -> usize {
 fn without(x: &Filling, so: fn(&Outcome) -> bool) -> Filled {
     let mut x = x.clone();
     loop {
-        let filled = port_maps::fill(&x);
+        let filled = port_maps::fill(&x, Form::Rows);
         if !so(&filled.outcome) {
             return filled;
         }

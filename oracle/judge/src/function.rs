@@ -68,7 +68,7 @@ impl Input for Words {
 /// A function that the original and the port both have.
 pub struct Function<I: Input = Words> {
     pub name: &'static str,
-    /// For `probe`, its number; for `s2dump`, which lines it reads.
+    /// For `probe`, its number; for `s2dump`, which lines it reads; for edges, how they are lent.
     pub op: I::Op,
     /// The reply that is due, the unchanged Rust's where it has one, in the words that the port
     /// writes.
@@ -107,8 +107,8 @@ pub struct Fault<I: Input = Words> {
 }
 
 /// The port's reply to the input after a change.
-pub fn with<I: Input<Op = ()> + Clone>(input: &I, change: impl FnOnce(&mut I)) -> I::Reply {
-    altered(input.clone(), change).port(())
+pub fn with<I: Input<Op: Default> + Clone>(input: &I, change: impl FnOnce(&mut I)) -> I::Reply {
+    altered(input.clone(), change).port(I::Op::default())
 }
 
 pub struct Layer<I: Input = Words> {

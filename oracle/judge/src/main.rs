@@ -16,6 +16,7 @@ mod descriptors;
 mod dump;
 mod dump_faults;
 mod dump_inputs;
+mod edge_record_faults;
 mod encode;
 mod encode_inputs;
 mod encode_row_faults;

@@ -9,11 +9,24 @@ use crate::fill::{Filled, Filling};
 use crate::inputs::Outcome;
 use crate::maps::NO_PERMISSION;
 use crate::port::outcome;
-use crate::records::{Edge, Frame, Grant};
+use crate::records::{Edge, EdgeRecord, Form, Frame, Grant};
 
 extern "C" {
     fn s2_fill(
         edges: *const Edge,
+        edge_count: usize,
+        frames: *const Frame,
+        frame_count: usize,
+        dom: u16,
+        base: *mut u8,
+        base_len: usize,
+        sup: *mut u8,
+        sup_len: usize,
+        values: *mut u64,
+    ) -> u32;
+
+    fn s2_fill_edges(
+        edges: *const EdgeRecord,
         edge_count: usize,
         frames: *const Frame,
         frame_count: usize,
@@ -47,18 +60,73 @@ extern "C" {
         frame_count: usize,
         values: *mut u64,
     ) -> u32;
+
+    fn s2_exact_edges(
+        dom: u16,
+        map: *const u8,
+        map_len: usize,
+        is_super: u32,
+        edges: *const EdgeRecord,
+        edge_count: usize,
+        frames: *const Frame,
+        frame_count: usize,
+        values: *mut u64,
+    ) -> u32;
 }
 
-pub fn fill(x: &Filling) -> Filled {
-    let mut edges = Fenced::new(&x.edges, refused_edge(x));
+/// A call that fills, with edges of one form.
+type Fill<E> = unsafe extern "C" fn(
+    *const E,
+    usize,
+    *const Frame,
+    usize,
+    u16,
+    *mut u8,
+    usize,
+    *mut u8,
+    usize,
+    *mut u64,
+) -> u32;
+
+/// A call that checks a map against edges of one form.
+type Exact<E> = unsafe extern "C" fn(
+    u16,
+    *const u8,
+    usize,
+    u32,
+    *const E,
+    usize,
+    *const Frame,
+    usize,
+    *mut u64,
+) -> u32;
+
+pub fn fill(x: &Filling, form: Form) -> Filled {
+    match form {
+        Form::Rows => fill_by(s2_fill, x, |edge| edge),
+        Form::Records => fill_by(s2_fill_edges, x, Edge::record),
+    }
+}
+
+pub fn exact(x: &Linked, form: Form) -> Outcome {
+    match form {
+        Form::Rows => exact_by(s2_exact, x, |edge| edge),
+        Form::Records => exact_by(s2_exact_edges, x, Edge::record),
+    }
+}
+
+/// The edges are lent as they are turned into.
+fn fill_by<E: Copy + PartialEq>(call: Fill<E>, x: &Filling, lent: fn(Edge) -> E) -> Filled {
+    let rows: Vec<E> = x.edges.iter().copied().map(lent).collect();
+    let mut edges = Fenced::new(&rows, lent(refused_edge(x)));
     let mut frames = Fenced::new(&x.frames, table(x.dom, 4));
     let mut base = Fenced::new(&x.base, NO_PERMISSION);
     let mut sup = Fenced::new(&x.sup, NO_PERMISSION);
     // SAFETY: each list and map is as long as is said, and eight values are written.
     let outcome = outcome(|values| unsafe {
-        s2_fill(
+        call(
             edges.as_mut_ptr(),
-            x.edges.len(),
+            rows.len(),
             frames.as_mut_ptr(),
             x.frames.len(),
             x.dom,
@@ -69,11 +137,11 @@ pub fn fill(x: &Filling) -> Filled {
             values,
         )
     });
-    let unchanged = edges.lent() == Some(&x.edges[..]) && frames.lent() == Some(&x.frames[..]);
-    assert!(unchanged, "s2_fill stores into the lists of {x}");
+    let unchanged = edges.lent() == Some(&rows[..]) && frames.lent() == Some(&x.frames[..]);
+    assert!(unchanged, "a filling stores into the lists of {x}");
     let filled = |map: Fenced<u8>| match map.lent() {
         Some(map) => map.to_vec(),
-        None => panic!("s2_fill stores around the maps of {x}"),
+        None => panic!("a filling stores around the maps of {x}"),
     };
     Filled {
         outcome,
@@ -106,28 +174,29 @@ pub fn authorized(x: &Granted) -> Outcome {
     outcome
 }
 
-pub fn exact(x: &Linked) -> Outcome {
+fn exact_by<E: Copy + PartialEq>(call: Exact<E>, x: &Linked, lent: fn(Edge) -> E) -> Outcome {
+    let rows: Vec<E> = x.edges.iter().copied().map(lent).collect();
     let mut map = Fenced::new(&x.map, NO_PERMISSION);
-    let mut edges = Fenced::new(&x.edges, other_edge(x));
+    let mut edges = Fenced::new(&rows, lent(other_edge(x)));
     let mut frames = Fenced::new(&x.frames, table(x.dom, x.kind()));
     // SAFETY: the map and each list are as long as is said, and eight values are written.
     let outcome = outcome(|values| unsafe {
-        s2_exact(
+        call(
             x.dom,
             map.as_mut_ptr(),
             x.map.len(),
             x.is_super,
             edges.as_mut_ptr(),
-            x.edges.len(),
+            rows.len(),
             frames.as_mut_ptr(),
             x.frames.len(),
             values,
         )
     });
     let unchanged = map.lent() == Some(&x.map[..])
-        && edges.lent() == Some(&x.edges[..])
+        && edges.lent() == Some(&rows[..])
         && frames.lent() == Some(&x.frames[..]);
-    assert!(unchanged, "s2_exact stores into {x}");
+    assert!(unchanged, "a check stores into {x}");
     outcome
 }
 

@@ -1,4 +1,4 @@
-//! Edge, frame and grant records: as the port is lent them, and as the original reads them.
+//! Edges, frames and grants: as the port is lent them, and as the original reads them.
 
 use std::fmt::{self, Debug, Formatter};
 
@@ -7,7 +7,17 @@ use given_core::p2m::{self, DomId, System};
 
 use crate::p2m::type_of;
 
-/// Of the last three, zero is no and all else yes.
+/// How edges are lent.
+#[derive(Clone, Copy, PartialEq, Default)]
+pub enum Form {
+    /// Six numbers each.
+    #[default]
+    Rows,
+    /// A record each.
+    Records,
+}
+
+/// A row. Of the last three, zero is no and all else yes.
 #[repr(C)]
 #[derive(Clone, Copy, PartialEq)]
 pub struct Edge {
@@ -17,6 +27,39 @@ pub struct Edge {
     pub writable: u32,
     pub leaf: u32,
     pub execute: u32,
+}
+
+/// A record, byte for byte: a flag is 1 or 0, and the padding is any byte.
+#[repr(C)]
+#[derive(Clone, Copy, PartialEq)]
+pub struct EdgeRecord {
+    parent: u32,
+    slot: u32,
+    child: u32,
+    writable: u8,
+    leaf: u8,
+    execute: u8,
+    padding: u8,
+}
+
+impl Edge {
+    /// Whether it is writable, a leaf and executable.
+    fn flags(self) -> [bool; 3] {
+        [self.writable, self.leaf, self.execute].map(|number| number != 0)
+    }
+
+    pub fn record(self) -> EdgeRecord {
+        let [writable, leaf, execute] = self.flags().map(u8::from);
+        EdgeRecord {
+            parent: self.parent,
+            slot: self.slot,
+            child: self.child,
+            writable,
+            leaf,
+            execute,
+            padding: u8::MAX,
+        }
+    }
 }
 
 #[repr(C)]
@@ -55,8 +98,7 @@ pub fn system(edges: &[Edge], frames: &[Frame]) -> System {
 }
 
 fn link_edge(edge: Edge) -> p2m::Edge {
-    let [writable, leaf, execute] =
-        [edge.writable, edge.leaf, edge.execute].map(|number| number != 0);
+    let [writable, leaf, execute] = edge.flags();
     (edge.parent, edge.slot, edge.child, writable, leaf, execute)
 }
 

@@ -7,6 +7,7 @@ use crate::layout::{Fields, ACCEPTED};
 use crate::map_inputs::bytes;
 use crate::maps::MAP_LEN;
 use crate::port_maps;
+use crate::records::Form;
 
 #[derive(Clone)]
 pub struct Source {
@@ -38,7 +39,7 @@ impl Source {
             sup: room(random, &self.scene.sup),
             ..self.filling.clone()
         };
-        let filled = port_maps::fill(&x);
+        let filled = port_maps::fill(&x, Form::Rows);
         assert_eq!(filled.outcome, ACCEPTED, "no row refuses {x}");
         filled
     }
