@@ -1,3 +1,4 @@
 pub mod Again
 pub mod Dropped
+pub mod Element
 pub mod Lent

@@ -37,7 +37,7 @@ use denote.Memory.{pointee}
 use denote.Plain.{uint-vals, uint-tells, uint-makes, uint-lawful}
 use denote.Array.{Array, array-makes, array-lawful}
 use denote.Builtin.{u8, u16, u32}
-use denote.Index.{place-is, looks-slice, shuts-slice, elem-out, elem-back}
+use denote.Index.{place-is}
 use denote.Ref.{RefT, now}
 use denote.Slice.{sliceTy, sliceVal, ShrSlice, Room, slice-vals, shr-slice-tells, shr-slice-lawful, shr-slice-copy}
 use denote.Signature.{Slot, plain}
@@ -52,6 +52,7 @@ use denote.Triple.Table.{entered, cited}
 use denote.Triple.Walked.{says, Stays, walkOf, Walks, ends-at, walked, walk-meets}
 use denote.Triple.Clauses.{ensured, lasts}
 use denote.Exit.{yes}
+use Rattle.lending.proofs.Element.{element, shut}
 use Rattle.lending.proofs.Dropped.{dropped, dropped-go}
 use Rattle.edge.specs.Edge.{edgeOf}
 use Rattle.edge.specs.declared.Edge.{Edge}
@@ -281,18 +282,15 @@ module _
               assigns ! (bin ! (load ! (from ! (stop !)) (look ! 1 refl)) (lit ! tt) (record { fits = offset-fits })) (from ! (stop !)) (init ! 3 refl (tt, record { fits = offset-fits })) $
               assigns ! (bin ! (load ! (from ! (fld ! refl (stop !))) (look-in ! 10 (sub ! 0 refl (whole !)))) (load ! (from ! (stop !)) (look ! 3 refl)) tt) (from ! (stop !)) (init ! 4 refl (tt, tt)) $
               rewrite ! 4 (λ (p : ℕ). ‵ (fat fullShare tyPtr l₁₁ 0 (vptr b p))) (sym (place-is 16 o i)) refl $
-              -- what edges owns is had twice: one is looked into, and the edge is copied
-              move ! (17 ∷ []) $ use1 W (‵ EdgesOwn ⊛ ‵ EdgesOwn) (shr-slice-copy 𝓤 H A W (named 1) κ₁ E.the-row .twice edges (ev ∷ [])) $ split ! $
-              fsplit ! $ drop ! $ fsplit ! $ drop ! $ move ! (0 ∷ 16 ∷ []) $
-              looks-slice ! tt E.the-row (Is E.the-row) (shows 𝓤 H A E.the-row) (LL.vals E.the-type E′.the-laws) (LL.tells E.the-type E′.the-laws) (LL.copy E.the-type E′.the-copy 𝓤 H A W) es b o (λ q′.
-              elem-out ! E.the-row (Is E.the-row) (shows 𝓤 H A E.the-row) (LL.vals E.the-type E′.the-laws) (LL.tells E.the-type E′.the-laws) q′ es i (edgeOf []) b o within (λ is-e.
-              -- [the edge; what it owns; the others; what shuts; the borrow; what edges owns; _6; _7; …]
-              assigns ! (of-opd ! (load ! (from ! (hop ! (look ! 10 refl) (stop !))) (look-raw ! 0 refl))) (from ! (stop !)) (init ! 11 refl (LL.lawful E.the-type E′.the-laws 𝓤 H A W .typed e _ is-e .0)) $
-              elem-back ! E.the-row q′ es i (edgeOf []) (E′.lowered e ∷ []) b o within $ shuts-slice ! tt E.the-row q′ es b o $ move ! (1 ∷ []) $ drop ! $
-              -- [κ₁'s token; what edges owns; _6; …; _0; κ₀'s, κ₂'s; what leaves and frames own; …]: what frames owns is had twice, and one goes to `noted`
+              -- the edge is copied
+              move ! (17 ∷ 14 ∷ []) $ element E.the-row (LL.vals E.the-type E′.the-laws) (named 1) κ₁ q₁ edges i (edgeOf []) ! tt within (LL.tells E.the-type E′.the-laws) (LL.copy E.the-type E′.the-copy 𝓤 H A W) (λ q′ is-e.
+              -- [the edge; what shuts it; _6; _7; _9; …]
+              assigns ! (of-opd ! (load ! (from ! (hop ! (look ! 6 refl) (stop !))) (look-raw ! 0 refl))) (from ! (stop !)) (init ! 7 refl (LL.lawful E.the-type E′.the-laws 𝓤 H A W .typed e _ is-e .0)) $
+              shut E.the-row (LL.vals E.the-type E′.the-laws) (named 1) κ₁ q₁ edges i (edgeOf []) ! tt within q′ $
+              -- [what edges owns; κ₁'s token; _6; …; _0; κ₀'s, κ₂'s; what leaves and frames own; …]: what frames owns is had twice, and one goes to `noted`
               move ! (18 ∷ []) $ use1 W (‵ FramesOwn ⊛ ‵ FramesOwn) (shr-slice-copy 𝓤 H A W (named 2) κ₂ Frame .twice frames (fv ∷ [])) $ split ! $ move ! (18 ∷ 0 ∷ []) $
               use2 W (raw (NotedC 𝓤 H A mem run .pre (to-noted xs v e))) (asks-noted xs v e (s .1 .1 .1 .1 .0) is-e) $
-              -- [what `noted` asks; what frames owns; κ₁'s token; what edges owns; _6; _7; _9; _10; _11; _12; _8; _1; _2; _3; _4; _5; _0; κ₀'s; what leaves owns; …]
+              -- [what `noted` asks; what frames owns; what edges owns; κ₁'s token; _6; _7; _9; _10; _11; _12; _8; _1; _2; _3; _4; _5; _0; κ₀'s; what leaves owns; …]
               calls-at ! fm (NotedC 𝓤 H A mem run) known-noted (to-noted xs v e)
               (and-then ! (load ! (from ! (stop !)) (look ! 4 refl)) (and-then ! (load ! (from ! (stop !)) (look ! 9 refl)) (and-then ! (load ! (from ! (stop !)) (look ! 11 refl)) (and-then ! (load ! (from ! (stop !)) (look ! 13 refl)) (and-then ! (load ! (from ! (stop !)) (look ! 15 refl)) (no-more !)))))) (λ u.
               use1 W (later (some (λ (r : List ℕ). ((‵ (flft κ₂ q₂) ⊛ ‵ ftrue) ⊛ ‵ (Entries .own r (u ∷ []))) ⊛ raw (ensured 𝓤 H A noted.ended (noted.clauses 𝓤 H A mem run) (κ₂, tt) (xs, (e, (dom, (span, (frames, tt))))) tt r)))) (id⊢ 𝓤 _) $ await ! tt $ pick ! (λ r.
@@ -301,8 +299,8 @@ module _
               forget ! 4 refl $ land ! (from ! (stop !)) (init ! 4 refl (array-lawful 𝓤 H A W u8 (uint-lawful 𝓤 H A W w8) entries .typed r (u ∷ []) is-r .0)) $
               assigns-last ! (bin ! (load ! (from ! (stop !)) (look ! 5 refl)) (lit ! tt) (record { fits = next-fits })) (from ! (stop !)) (store ! 5 refl (tt, record { fits = next-fits })) $
               forget ! 6 refl $ forget ! 7 refl $ forget ! 8 refl $ forget ! 9 refl $ split ! $
-              keep ! (5 ∷ 6 ∷ 7 ∷ 8 ∷ 9 ∷ 10 ∷ 11 ∷ 12 ∷ 13 ∷ 14 ∷ 15 ∷ 16 ∷ 17 ∷ 18 ∷ 3 ∷ 0 ∷ 19 ∷ 4 ∷ 2 ∷ 20 ∷ 21 ∷ 22 ∷ 23 ∷ 24 ∷ 25 ∷ 26 ∷ 27 ∷ 28 ∷ 29 ∷ 30 ∷ 31 ∷ 32 ∷ []) $
-              again ! Nearer At s (i + 1, (r, (u, (add-one-le within, (is-r, one-noted (now frames) dom span es i xs r (edgeOf []) within (s .1 .1 .1 .1 .1) after))))) (add-one-dec n i within)))))))
+              keep ! (5 ∷ 6 ∷ 7 ∷ 8 ∷ 9 ∷ 10 ∷ 11 ∷ 12 ∷ 13 ∷ 14 ∷ 15 ∷ 16 ∷ 17 ∷ 18 ∷ 4 ∷ 0 ∷ 19 ∷ 3 ∷ 2 ∷ 20 ∷ 21 ∷ 22 ∷ 23 ∷ 24 ∷ 25 ∷ 26 ∷ 27 ∷ 28 ∷ 29 ∷ 30 ∷ 31 ∷ 32 ∷ []) $
+              again ! Nearer At s (i + 1, (r, (u, (add-one-le within, (is-r, one-noted (now frames) dom span es i xs r (edgeOf []) within (s .1 .1 .1 .1 .1) after))))) (add-one-dec n i within))))))
             where
               offset-fits : s .0 * 16 < 2 ^ 64
               offset-fits = omega (arith, within, room .1)

@@ -37,7 +37,7 @@ use denote.Memory.{pointee}
 use denote.Plain.{uint-vals, uint-tells, uint-makes}
 use denote.Array.{Array}
 use denote.Builtin.{u8, u16, u32}
-use denote.Index.{place-is, looks-slice, shuts-slice, elem-out, elem-back}
+use denote.Index.{place-is}
 use denote.Ref.{RefT, ptr, now}
 use denote.Slice.{sliceTy, sliceVal, MutSlice, ShrSlice, Room, finally, slice-vals, mut-slice-tells, mut-slice-lawful, shr-slice-tells, shr-slice-lawful, shr-slice-copy}
 use denote.Signature.{plain, shrSliceOf}
@@ -52,6 +52,7 @@ use denote.Triple.Table.{entered, cited}
 use denote.Triple.Walked.{says, Stays, stay-dropped, stay-slice, goes-dropped, goes-slice, walkOf, Walks, ends-at, walked, walk-meets}
 use denote.Triple.Clauses.{ensured, lasts}
 use denote.Exit.{yes}
+use Rattle.lending.proofs.Element.{element, shut}
 use Rattle.lending.proofs.Lent.{renamed, holding, lends, back, shares, unshares}
 use Rattle.edge.specs.Edge.{edgeOf}
 use Rattle.edge.specs.declared.Edge.{Edge}
@@ -363,44 +364,41 @@ module _
               assigns ! (bin ! (load ! (from ! (stop !)) (look ! 1 refl)) (lit ! tt) (record { fits = offset-fits })) (from ! (stop !)) (init ! 3 refl (tt, record { fits = offset-fits })) $
               assigns ! (bin ! (load ! (from ! (fld ! refl (stop !))) (look-in ! 11 (sub ! 0 refl (whole !)))) (load ! (from ! (stop !)) (look ! 3 refl)) tt) (from ! (stop !)) (init ! 4 refl (tt, tt)) $
               rewrite ! 4 (λ (p : ℕ). ‵ (fat fullShare tyPtr l₁₅ 0 (vptr b p))) (sym (place-is 16 o i)) refl $
-              -- what edges owns is had twice: one is looked into, and the edge is copied
-              move ! (20 ∷ []) $ use1 W (‵ EdgesOwn ⊛ ‵ EdgesOwn) (shr-slice-copy 𝓤 H A W (named 0) κ₀ E.the-row .twice edges (ev ∷ [])) $ split ! $
-              fsplit ! $ drop ! $ fsplit ! $ drop ! $ move ! (0 ∷ 18 ∷ []) $
-              looks-slice ! tt E.the-row (Is E.the-row) (shows 𝓤 H A E.the-row) (LL.vals E.the-type E′.the-laws) (LL.tells E.the-type E′.the-laws) (LL.copy E.the-type E′.the-copy 𝓤 H A W) es b o (λ q′.
-              elem-out ! E.the-row (Is E.the-row) (shows 𝓤 H A E.the-row) (LL.vals E.the-type E′.the-laws) (LL.tells E.the-type E′.the-laws) q′ es i (edgeOf []) b o within (λ is-e.
-              -- [the edge; what it owns; the others; what shuts; the borrow; what edges owns; _6; _7; …]
-              assigns ! (of-opd ! (load ! (from ! (hop ! (look ! 10 refl) (stop !))) (look-raw ! 0 refl))) (from ! (stop !)) (init ! 11 refl (LL.lawful E.the-type E′.the-laws 𝓤 H A W .typed e _ is-e .0)) $
-              elem-back ! E.the-row q′ es i (edgeOf []) (E′.lowered e ∷ []) b o within $ shuts-slice ! tt E.the-row q′ es b o $ move ! (1 ∷ []) $ drop ! $
-              -- [κ₀'s token; what edges owns; _6; _7; _13; …; _20; _12; _1; …; _5; κ₁'s to κ₃'s; what frames and the maps own; …]: _18 and _20 are the maps
+              -- the edge is copied
+              move ! (20 ∷ 16 ∷ []) $ element E.the-row (LL.vals E.the-type E′.the-laws) (named 0) κ₀ q₀ edges i (edgeOf []) ! tt within (LL.tells E.the-type E′.the-laws) (LL.copy E.the-type E′.the-copy 𝓤 H A W) (λ q′ is-e.
+              -- [the edge; what shuts it; _6; _7; _13; …]
+              assigns ! (of-opd ! (load ! (from ! (hop ! (look ! 6 refl) (stop !))) (look-raw ! 0 refl))) (from ! (stop !)) (init ! 7 refl (LL.lawful E.the-type E′.the-laws 𝓤 H A W .typed e _ is-e .0)) $
+              shut E.the-row (LL.vals E.the-type E′.the-laws) (named 0) κ₀ q₀ edges i (edgeOf []) ! tt within q′ $
+              -- [what edges owns; κ₀'s token; _6; _7; _13; …; _20; _12; _1; …; _5; κ₁'s to κ₃'s; what frames and the maps own; …]: _18 and _20 are the maps
               assigns ! (addr ! (from ! (fld ! refl (hop ! (look-in ! 16 (sub ! 0 refl (whole !))) (stop !))))) (from ! (stop !)) (init ! 8 refl (tt, tt)) $
               assigns ! (agg ! (and-then ! (load ! (from ! (stop !)) (look ! 8 refl)) (and-then ! (load ! (from ! (fld ! refl (stop !))) (look-in ! 16 (sub ! 1 refl (whole !)))) (no-more !)))) (from ! (stop !)) (init ! 9 refl (tt, (tt, (record { fits = base-room .0 }, tt)))) $
               assigns ! (addr ! (from ! (fld ! refl (hop ! (look-in ! 17 (sub ! 0 refl (whole !))) (stop !))))) (from ! (stop !)) (init ! 10 refl (tt, tt)) $
               assigns ! (agg ! (and-then ! (load ! (from ! (stop !)) (look ! 10 refl)) (and-then ! (load ! (from ! (fld ! refl (stop !))) (look-in ! 17 (sub ! 1 refl (whole !)))) (no-more !)))) (from ! (stop !)) (init ! 11 refl (tt, (tt, (record { fits = sup-room .0 }, tt)))) $
               move ! (22 ∷ 19 ∷ []) $ lends u8 ! tt (named 2) (named 0) κ₂ q₂ (holding u8 bs base) (bv ∷ []) (still base bs same-bs) (λ ν δ.
-              -- [ν's token; base, lent; what is kept of it; κ₀'s token; what edges owns; _6; …; _5; κ₁'s, κ₃'s; what frames and sup own; …]
+              -- [ν's token; base, lent; what is kept of it; what edges owns; κ₀'s token; _6; …; _5; κ₁'s, κ₃'s; what frames and sup own; …]
               move ! (24 ∷ 22 ∷ []) $ lends u8 ! tt (named 3) (named 0) κ₃ q₃ (holding u8 ss sup) (sv ∷ []) (still sup ss same-ss) (λ ξ ε.
-              -- [ξ's token; sup, lent; what is kept of it; the same of base; κ₀'s; what edges owns; _6; …; _5; κ₁'s; what frames owns; …]: what frames owns is had twice
+              -- [ξ's token; sup, lent; what is kept of it; the same of base; what edges owns; κ₀'s; _6; …; _5; κ₁'s; what frames owns; …]: what frames owns is had twice
               move ! (25 ∷ []) $ use1 W (‵ FramesOwn ⊛ ‵ FramesOwn) (shr-slice-copy 𝓤 H A W (named 1) κ₁ Frame .twice frames (fv ∷ [])) $ split ! $ move ! (26 ∷ 5 ∷ 2 ∷ 0 ∷ 6 ∷ 3 ∷ []) $ group ! 6 $
               use1 W (raw (Next 𝓤 H A mem run .pre (to-next ν ξ δ ε r v e bs ss))) (asks-next ν ξ δ ε r v e bs ss (s .1 .1 .1 .1 .1 .1 .0) is-e) $
-              -- [what `place_next` asks; what frames owns; what is kept of sup, of base; κ₀'s token; what edges owns; _6; _7; _13; …; _20; _12; _1; …; _5; …]
+              -- [what `place_next` asks; what frames owns; what is kept of sup, of base; what edges owns; κ₀'s token; _6; _7; _13; …; _20; _12; _1; …; _5; …]
               calls-at ! fm (Next 𝓤 H A mem run) known-next (to-next ν ξ δ ε r v e bs ss)
               (and-then ! (load ! (from ! (stop !)) (look ! 6 refl)) (and-then ! (load ! (from ! (stop !)) (look ! 11 refl)) (and-then ! (load ! (from ! (stop !)) (look ! 18 refl)) (and-then ! (load ! (from ! (stop !)) (look ! 19 refl)) (and-then ! (load ! (from ! (stop !)) (look ! 13 refl)) (and-then ! (load ! (from ! (stop !)) (look ! 15 refl)) (no-more !))))))) (λ u.
               use1 W (later (some (λ (r′ : Verdict). ((‵ (flft κ₁ q₁) ⊛ (‵ (flft (ν ∷ []) fullShare) ⊛ (‵ (flft (ξ ∷ []) fullShare) ⊛ ‵ ftrue))) ⊛ ‵ (R.the-row .own r′ (u ∷ []))) ⊛ raw (ensured 𝓤 H A next.ended (next.clauses 𝓤 H A mem run) (κ₁, (ν ∷ [], (ξ ∷ [], tt))) (r, (e, (frames, (dom, (lent-base δ bs, (lent-sup ε ss, tt)))))) tt r′)))) (id⊢ 𝓤 _) $ await ! tt $ pick ! (λ r′.
               split ! $ move ! (1 ∷ []) $ use1 W (Left δ ε bs ss (Placed r e bs ss r′)) (says-next ν ξ δ ε r e bs ss r′) $ pick ! (λ zs. learn ! (λ said. split ! $ move ! (2 ∷ []) $ split ! $ move ! (1 ∷ []) $
               facts ! R.the-row (Is R.the-row) (shows 𝓤 H A R.the-row) r′ (u ∷ []) (λ is-r′.
-              -- [the three tokens; base's and sup's last entries; what frames owns; what is kept of sup, of base; κ₀'s; what edges owns; _6; …]
+              -- [the three tokens; base's and sup's last entries; what frames owns; what is kept of sup, of base; what edges owns; κ₀'s; _6; …]
               forget ! 8 refl $ land ! (from ! (stop !)) (init ! 8 refl (EL.lawful R.the-type R′.the-laws 𝓤 H A W tt .typed r′ _ is-r′ .0)) $
               split ! $ move ! (1 ∷ []) $ split ! $ move ! (1 ∷ []) $ split ! $
               -- [ξ's token; true; ν's; κ₁'s; the last entries; what frames owns; what is kept of sup, of base; …]: both maps are back
               move ! (0 ∷ 7 ∷ 5 ∷ []) $ back u8 ! tt (named 3) (named 0) κ₃ q₃ (holding u8 ss sup) (sv ∷ []) (still sup ss same-ss) ξ ε (zs .1) (subst (Room u8) (sym same-ss) sup-room) (said .1 .0) $
               move ! (3 ∷ 7 ∷ 5 ∷ []) $ back u8 ! tt (named 2) (named 0) κ₂ q₂ (holding u8 bs base) (bv ∷ []) (still base bs same-bs) ν δ (zs .0) (subst (Room u8) (sym same-bs) base-room) (said .0) $ move ! (4 ∷ []) $ drop ! $
-              -- [base; κ₂'s token; sup; κ₃'s; κ₁'s; what frames owns; κ₀'s; what edges owns; _6; _7; _13; …; _20; _12; _1; …; _5; …]
+              -- [base; κ₂'s token; sup; κ₃'s; κ₁'s; what frames owns; what edges owns; κ₀'s; _6; _7; _13; …; _20; _12; _1; …; _5; …]
               assigns-last ! (bin ! (load ! (from ! (stop !)) (look ! 9 refl)) (lit ! tt) (record { fits = next-fits })) (from ! (stop !)) (store ! 9 refl (tt, record { fits = next-fits })) $
               forget ! 10 refl $ forget ! 11 refl $ forget ! 12 refl $ forget ! 13 refl $ forget ! 14 refl $ forget ! 15 refl $ forget ! 16 refl $ forget ! 17 refl $
-              move ! (8 ∷ 9 ∷ 10 ∷ 11 ∷ 12 ∷ 13 ∷ 14 ∷ 15 ∷ 16 ∷ 17 ∷ 18 ∷ 19 ∷ 20 ∷ 21 ∷ 22 ∷ 23 ∷ 6 ∷ 4 ∷ 1 ∷ 3 ∷ 7 ∷ 5 ∷ 0 ∷ 2 ∷ []) $
+              move ! (8 ∷ 9 ∷ 10 ∷ 11 ∷ 12 ∷ 13 ∷ 14 ∷ 15 ∷ 16 ∷ 17 ∷ 18 ∷ 19 ∷ 20 ∷ 21 ∷ 22 ∷ 23 ∷ 7 ∷ 4 ∷ 1 ∷ 3 ∷ 6 ∷ 5 ∷ 0 ∷ 2 ∷ []) $
               again ! Nearer At s
               (i + 1, (r′, (u, (zs .0, (zs .1, (add-one-le within, (is-r′, (said .0 ∙ same-bs, (said .1 .0 ∙ same-ss, one-placed (now frames) dom es (started (now base) (now sup)) i bs ss (zs .0) (zs .1) (outcomeOf r) (outcomeOf r′) (edgeOf []) within (s .1 .1 .1 .1 .1 .1 .1 .1 .1) (said .1 .1))))))))))
-              (add-one-dec n i within))))))))))
+              (add-one-dec n i within)))))))))
             where
               offset-fits : s .0 * 16 < 2 ^ 64
               offset-fits = omega (arith, within, room .1)
@@ -522,9 +520,16 @@ module _ {M : Type 1} (𝓤 : URA M) (H : Heap 𝓤) (A : Atoms 𝓤) (W : Given
       (are .1 .1 .0 .1) 𝓣 (fmOf 𝓤 H (W .laws) 𝓣) known-start known-next known-finish (are .0) (are .1 .0) (are .1 .1 .1 .0) (are .1 .1 .1 .1 .0)))
 
   leaf-meets : Meets 𝓤 H A leaf.signature (WpFn 𝓤 H (𝓣 .C) (𝓣 .Λ) code.function) (leaf.spec 𝓤 H A mem run)
-  leaf-meets = walk-meets 𝓤 H A leaf.ended stayed W
-      (goes-dropped 𝓤 H A W 4 (shrSliceOf (0 ∷ []) tt (plain (λ _. E.the-row))) yes (λ κs x f. refl), (goes-dropped 𝓤 H A W 4 (shrSliceOf (1 ∷ []) tt (plain (λ _. Frame))) yes (λ κs x f. refl), (goes-dropped 𝓤 H A W 4 (plain (λ _. u16)) yes (λ κs x f. refl),
-      (goes-slice 𝓤 H A W 4 2 tt (plain (λ _. u8)), (goes-slice 𝓤 H A W 4 3 tt (plain (λ _. u8)), tt)))))
+  leaf-meets = walk-meets 𝓤 H A leaf.ended stayed W (
+    goes-dropped 𝓤 H A W 4 (shrSliceOf (0 ∷ []) tt (plain (λ _. E.the-row))) yes (λ κs x f. refl),
+    (
+      goes-dropped 𝓤 H A W 4 (shrSliceOf (1 ∷ []) tt (plain (λ _. Frame))) yes (λ κs x f. refl),
+      (
+        goes-dropped 𝓤 H A W 4 (plain (λ _. u16)) yes (λ κs x f. refl),
+        (goes-slice 𝓤 H A W 4 2 tt (plain (λ _. u8)), (goes-slice 𝓤 H A W 4 3 tt (plain (λ _. u8)), tt)),
+      ),
+    ),
+  )
       (leaf.clauses 𝓤 H A mem run) (WpFn 𝓤 H (𝓣 .C) (𝓣 .Λ) code.function) (WpFn-mono 𝓤 H (W .laws) 𝓣 code.function) leaf-walks
 
 pub leaf-map-from-edges-spec : {M : Type 1} → stated.statement M
