@@ -29,7 +29,7 @@ pub fn compare_all(scale: usize, fault: Option<&str>) -> Result<(), String> {
 }
 
 /// Compares the functions of these layers and counts their inputs.
-fn compare_layers<I: Input>(
+pub fn compare_layers<I: Input>(
     layers: &'static [Layer<I>],
     scale: usize,
     fault: Option<&str>,

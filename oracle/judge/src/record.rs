@@ -3,6 +3,7 @@
 use std::fs;
 use std::path::Path;
 
+use crate::compare::compare_layers;
 use crate::function::{functions, Function, Input, LAYOUTS, WORDS};
 use crate::inputs::{Random, Words};
 use crate::layout_inputs;
@@ -44,6 +45,9 @@ pub fn check(folder: &str) -> Result<(), String> {
         let (program, count) = (record.program, record.len());
         println!("{program}: {count} recorded answers are the original's");
     }
+    // Those that carry edges, which the program lends as rows.
+    compare_layers(&record_maps::FILLINGS, 1, None)?;
+    compare_layers(&record_maps::LINKED, 1, None)?;
     Ok(())
 }
 

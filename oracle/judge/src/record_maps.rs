@@ -2,18 +2,19 @@
 //! five frames and two grants.
 
 use std::array;
+use std::iter::empty;
 
 use given_core::p2m::DomId;
 
 use crate::authorized::{anothers, authorized, nobodys, Granted};
 use crate::exact::{exact, Linked};
 use crate::fill::{fill, Filling};
-use crate::function::Answer;
+use crate::function::{Answer, Function, Layer};
 use crate::inputs::{random, Outcome, Random, Words};
 use crate::layout::row;
 use crate::p2m::NOBODY;
 use crate::record::digits;
-use crate::records::{Edge, Frame, Grant};
+use crate::records::{Edge, Form, Frame, Grant};
 use crate::tally::Tally;
 
 /// As the program replay_maps reads it: which call it is, the domain, the span, base and super,
@@ -21,6 +22,9 @@ use crate::tally::Tally;
 type Call = [u64; 16];
 
 const CALLS: usize = 600;
+
+/// How many calls must have each kind of answer.
+const LEAST: u64 = 5;
 
 const FILL: u64 = 1;
 const AUTHORIZED: u64 = 2;
@@ -47,6 +51,36 @@ const COMPARED: &[Answer] = &[
     ("row 25", row::<25>),
 ];
 
+/// The recorded fillings, from records.
+pub static FILLINGS: [Layer<Filling>; 1] = [Layer {
+    functions: &[Function {
+        name: "recorded fill, from records",
+        op: Form::Records,
+        original: fill,
+        boundary: || Box::new(calls().filter(|call| call[0] == FILL).map(filling)),
+        sweep: |_| Box::new(empty()),
+        answers: FILLED,
+        least: LEAST,
+        recorded: true,
+    }],
+    faults: &[],
+}];
+
+/// The recorded checks against edges, from records.
+pub static LINKED: [Layer<Linked>; 1] = [Layer {
+    functions: &[Function {
+        name: "recorded check_exact, from records",
+        op: Form::Records,
+        original: exact,
+        boundary: || Box::new(calls().filter(|call| call[0] == EXACT).map(beside_edges)),
+        sweep: |_| Box::new(empty()),
+        answers: COMPARED,
+        least: LEAST,
+        recorded: true,
+    }],
+    faults: &[],
+}];
+
 /// The lines to be read, and those to be written.
 pub fn lines() -> Result<(String, String), String> {
     let (mut stdin, mut stdout) = (String::new(), String::new());
@@ -55,8 +89,8 @@ pub fn lines() -> Result<(String, String), String> {
         Tally::new("recorded check_authorized_with", REACHED),
         Tally::new("recorded check_exact", COMPARED),
     ];
-    for call in random(Random(15), CALLS, call) {
-        let (outcome, maps) = answer(&call);
+    for call in calls() {
+        let (outcome, maps) = answer(call);
         tallies[call[0] as usize - 1].count(&outcome);
         stdin += &format!("{}\n", digits(&call));
         stdout += &format!("{}\n", digits(&outcome));
@@ -66,12 +100,16 @@ pub fn lines() -> Result<(String, String), String> {
     }
     tallies
         .iter()
-        .try_for_each(|tally| tally.complete(5))
+        .try_for_each(|tally| tally.complete(LEAST))
         .map(|()| (stdin, stdout))
 }
 
+fn calls() -> impl Iterator<Item = Call> {
+    random(Random(15), CALLS, call)
+}
+
 /// The answer, and after a filling both maps.
-fn answer(call: &Call) -> (Outcome, Vec<Words>) {
+fn answer(call: Call) -> (Outcome, Vec<Words>) {
     match call[0] {
         FILL => {
             let filled = fill(&filling(call));
@@ -83,29 +121,29 @@ fn answer(call: &Call) -> (Outcome, Vec<Words>) {
     }
 }
 
-fn granted(call: &Call) -> Granted {
+fn granted(call: Call) -> Granted {
     Granted {
         dom: call[1] as DomId,
         map: call[3].to_le_bytes().into(),
-        frames: frames(call),
+        frames: frames(&call),
         grants: call[14..].iter().copied().map(grant).collect(),
     }
 }
 
-fn beside_edges(call: &Call) -> Linked {
+fn beside_edges(call: Call) -> Linked {
     Linked {
         dom: call[1] as DomId,
         map: call[3].to_le_bytes().into(),
         is_super: call[2] as u32,
-        edges: edges(call),
-        frames: frames(call),
+        edges: edges(&call),
+        frames: frames(&call),
     }
 }
 
-fn filling(call: &Call) -> Filling {
+fn filling(call: Call) -> Filling {
     Filling {
-        edges: edges(call),
-        frames: frames(call),
+        edges: edges(&call),
+        frames: frames(&call),
         dom: call[1] as DomId,
         base: call[3].to_le_bytes().into(),
         sup: call[4].to_le_bytes().into(),
@@ -167,7 +205,7 @@ fn call(random: &mut Random) -> Call {
     call[14..].fill_with(|| grant_number(random, dom));
     call[3] = match call[0] {
         FILL => random.word(),
-        EXACT if random.below(2) == 0 => linked(&call),
+        EXACT if random.below(2) == 0 => linked(call),
         _ => map_number(random),
     };
     call[4] = random.word();
@@ -205,7 +243,7 @@ fn map_number(random: &mut Random) -> u64 {
 }
 
 /// The map that the edges of the span fill.
-fn linked(call: &Call) -> u64 {
+fn linked(call: Call) -> u64 {
     let filled = fill(&filling(call));
     let map = if call[2] == 0 {
         filled.base
