@@ -14,7 +14,7 @@ use prog.Routine.{Routine}
 use prog.Wp.{Heap}
 use ghost.Atoms.{Atoms, sem}
 use contract.Monad.{Fun, fact}
-use types.Kit.{Given, ‵, raw, _⊛_, some, given, later, _$_, _∵_, !, qed, move, keep, drop, use1, split, join, pick, show, check, fsplit, fjoin, frame, await, updating, now as at-once, done}
+use types.Kit.{Given, ‵, raw, _⊛_, some, later, _$_, _∵_, !, qed, move, keep, drop, use1, split, join, pick, show, check, fsplit, fjoin, frame, await, updating, now as at-once, done}
 use denote.RattleType.{RattleType}
 use denote.Array.{Array}
 use denote.Builtin.{u32, u64}
