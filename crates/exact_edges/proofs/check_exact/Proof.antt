@@ -308,6 +308,17 @@ module _
               next-fits : s .0 + 1 < 2 ^ 64
               next-fits = lt-of-le-of-lt (add-one-le within) (room .0)
 
+          -- the result is read, and each local's room goes with what says that it dies
+          freed : (r : Verdict) (u : Val) → ent 𝓤 (⋆ 𝓤 H A (‵ (flft κ₀ q₀) ∷ ‵ (flft κ₁ q₁) ∷ ‵ (flft κ₂ q₂) ∷ ‵ (R.the-row .own r (u ∷ [])) ∷ [])) (Post u)
+              → Sq W
+              (‵ (fat fullShare R′.mir l₀ 0 u) ∷ ‵ (fdies R′.mir l₀) ∷ ‵ (froom (tyInt w16) l₁ 0) ∷ ‵ (fdies (tyInt w16) l₁) ∷ ‵ (froom τ₂ l₂ 0) ∷ ‵ (fdies τ₂ l₂)
+              ∷ ‵ (froom S′.mir l₃ 0) ∷ ‵ (fdies S′.mir l₃) ∷ ‵ (froom τ₄ l₄ 0) ∷ ‵ (fdies τ₄ l₄) ∷ ‵ (froom τ₅ l₅ 0) ∷ ‵ (fdies τ₅ l₅)
+              ∷ ‵ (froom τ₆ l₆ 0) ∷ ‵ (fdies τ₆ l₆) ∷ ‵ (froom word l₇ 0) ∷ ‵ (fdies word l₇) ∷ ‵ (froom word l₈ 0) ∷ ‵ (fdies word l₈)
+              ∷ ‵ (froom tyBool l₉ 0) ∷ ‵ (fdies tyBool l₉) ∷ ‵ (froom word l₁₀ 0) ∷ ‵ (fdies word l₁₀) ∷ ‵ (froom tyPtr l₁₁ 0) ∷ ‵ (fdies tyPtr l₁₁)
+              ∷ ‵ (froom E′.mir l₁₂ 0) ∷ ‵ (fdies E′.mir l₁₂) ∷ ‵ (flft κ₀ q₀) ∷ ‵ (flft κ₁ q₁) ∷ ‵ (flft κ₂ q₂) ∷ ‵ (R.the-row .own r (u ∷ [])) ∷ [])
+              (runs C Λ En text.t-6 (atRet En Post))
+          freed r u k = returns ! (look ! 0 refl) $ forget ! 0 refl $ free1 ! $ free1 ! $ free1 ! $ free1 ! $ free1 ! $ free1 ! $ free1 ! $ free1 ! $ free1 ! $ free1 ! $ free1 ! $ free1 ! $ free1 ! $ free0 ! $ by ! k
+
           -- the turn that leaves the loop, and the rest of the body
           ends : (s : State) → n ≤ s .0 → Sq W (At s) (runs C Λ En text.turn-1 (anyQ (Turned s)))
           unfolding afterTurn
@@ -325,12 +336,11 @@ module _
               split ! $ move ! (1 ∷ []) $ use1 W (raw (fact 𝓤 (Compared xs r))) (says-compare xs r) $ heard ! (Compared xs r) (λ compared. split ! $ move ! (1 ∷ []) $
               -- [the result; κ₀'s token; _6; _7; _9; _10; _11; _12; _8; _1; _2; _3; _4; _5; room for _0; κ₁'s and κ₂'s token; …]
               peeks ! R.the-row (Is R.the-row) (shows 𝓤 H A R.the-row) r (u ∷ []) (λ is-r.
-              land ! (from ! (stop !)) (init ! 14 refl (EL.lawful R.the-type R′.the-laws 𝓤 H A W tt .typed r _ is-r .0)) $ returns ! (look ! 14 refl) $
-              forget ! 2 refl $ forget ! 3 refl $ forget ! 4 refl $ forget ! 8 refl $ forget ! 9 refl $ forget ! 10 refl $ forget ! 11 refl $ forget ! 12 refl $ forget ! 13 refl $ forget ! 14 refl $
-              -- each local's room, and that it dies
-              keep ! (14 ∷ 19 ∷ 9 ∷ 20 ∷ 10 ∷ 21 ∷ 11 ∷ 22 ∷ 12 ∷ 23 ∷ 13 ∷ 24 ∷ 2 ∷ 25 ∷ 3 ∷ 26 ∷ 8 ∷ 27 ∷ 4 ∷ 28 ∷ 5 ∷ 29 ∷ 6 ∷ 30 ∷ 7 ∷ 31 ∷ 1 ∷ 15 ∷ 16 ∷ 0 ∷ []) $
-              free1 ! $ free1 ! $ free1 ! $ free1 ! $ free1 ! $ free1 ! $ free1 ! $ free1 ! $ free1 ! $ free1 ! $ free1 ! $ free1 ! $ free1 ! $ free0 ! $ split ! $ keep ! (0 ∷ 2 ∷ 3 ∷ 4 ∷ []) $
-              by ! (exits r u (compared ∙ same-compared dom span _ _ (now leaves) (all-noted (now frames) dom span es i xs past (s .1 .1 .1 .1 .1))))))))
+              land ! (from ! (stop !)) (init ! 14 refl (EL.lawful R.the-type R′.the-laws 𝓤 H A W tt .typed r _ is-r .0)) $
+              forget ! 2 refl $ forget ! 3 refl $ forget ! 4 refl $ forget ! 8 refl $ forget ! 9 refl $ forget ! 10 refl $ forget ! 11 refl $ forget ! 12 refl $ forget ! 13 refl $ move ! (1 ∷ []) $ split ! $
+              -- [κ₀'s token; true; the result; _6; …]
+              keep ! (15 ∷ 20 ∷ 10 ∷ 21 ∷ 11 ∷ 22 ∷ 12 ∷ 23 ∷ 13 ∷ 24 ∷ 14 ∷ 25 ∷ 3 ∷ 26 ∷ 4 ∷ 27 ∷ 9 ∷ 28 ∷ 5 ∷ 29 ∷ 6 ∷ 30 ∷ 7 ∷ 31 ∷ 8 ∷ 32 ∷ 0 ∷ 16 ∷ 17 ∷ 2 ∷ []) $
+              freed r u (exits r u (compared ∙ same-compared dom span _ _ (now leaves) (all-noted (now frames) dom span es i xs past (s .1 .1 .1 .1 .1))))))))
 
           turns : (s : State) → Sq W (At s) (runs C Λ En text.turn-1 (anyQ (Turned s)))
           turns s = go (ltb (s .0) n) refl

@@ -412,6 +412,23 @@ module _
               same-ss : length (sups s) ≡ length (now sup)
               same-ss = s .1 .1 .1 .1 .1 .1 .1 .1 .0
 
+          -- the result is read, and each local's room goes with what says that it dies
+          freed : (r : Verdict) (u : Val) (bs ss : List ℕ)
+              → ent 𝓤 (⋆ 𝓤 H A (‵ (flft κ₀ q₀) ∷ ‵ (flft κ₁ q₁) ∷ ‵ (flft κ₂ q₂) ∷ ‵ (flft κ₃ q₃) ∷ ‵ (BaseOwn bs) ∷ ‵ (SupOwn ss) ∷ ‵ (R.the-row .own r (u ∷ [])) ∷ [])) (Post u)
+              → Sq W
+              (‵ (fat fullShare R′.mir l₀ 0 u) ∷ ‵ (fdies R′.mir l₀) ∷ ‵ (froom τ₁ l₁ 0) ∷ ‵ (fdies τ₁ l₁) ∷ ‵ (froom τ₂ l₂ 0) ∷ ‵ (fdies τ₂ l₂)
+              ∷ ‵ (froom (tyInt w16) l₃ 0) ∷ ‵ (fdies (tyInt w16) l₃) ∷ ‵ (froom τ₄ l₄ 0) ∷ ‵ (fdies τ₄ l₄) ∷ ‵ (froom τ₅ l₅ 0) ∷ ‵ (fdies τ₅ l₅)
+              ∷ ‵ (froom R′.mir l₆ 0) ∷ ‵ (fdies R′.mir l₆) ∷ ‵ (froom word l₇ 0) ∷ ‵ (fdies word l₇) ∷ ‵ (froom ref l₈ 0) ∷ ‵ (fdies ref l₈)
+              ∷ ‵ (froom τ₉ l₉ 0) ∷ ‵ (fdies τ₉ l₉) ∷ ‵ (froom ref l₁₀ 0) ∷ ‵ (fdies ref l₁₀) ∷ ‵ (froom τ₉ l₁₁ 0) ∷ ‵ (fdies τ₉ l₁₁)
+              ∷ ‵ (froom word l₁₂ 0) ∷ ‵ (fdies word l₁₂) ∷ ‵ (froom tyBool l₁₃ 0) ∷ ‵ (fdies tyBool l₁₃) ∷ ‵ (froom word l₁₄ 0) ∷ ‵ (fdies word l₁₄)
+              ∷ ‵ (froom tyPtr l₁₅ 0) ∷ ‵ (fdies tyPtr l₁₅) ∷ ‵ (froom E′.mir l₁₆ 0) ∷ ‵ (fdies E′.mir l₁₆) ∷ ‵ (froom ref l₁₇ 0) ∷ ‵ (fdies ref l₁₇)
+              ∷ ‵ (froom τ₉ l₁₈ 0) ∷ ‵ (fdies τ₉ l₁₈) ∷ ‵ (froom ref l₁₉ 0) ∷ ‵ (fdies ref l₁₉) ∷ ‵ (froom τ₉ l₂₀ 0) ∷ ‵ (fdies τ₉ l₂₀)
+              ∷ ‵ (froom shr l₂₁ 0) ∷ ‵ (fdies shr l₂₁) ∷ ‵ (froom τ₂₂ l₂₂ 0) ∷ ‵ (fdies τ₂₂ l₂₂) ∷ ‵ (froom shr l₂₃ 0) ∷ ‵ (fdies shr l₂₃)
+              ∷ ‵ (froom τ₂₂ l₂₄ 0) ∷ ‵ (fdies τ₂₂ l₂₄) ∷ ‵ (flft κ₀ q₀) ∷ ‵ (flft κ₁ q₁) ∷ ‵ (flft κ₂ q₂) ∷ ‵ (flft κ₃ q₃)
+              ∷ ‵ (BaseOwn bs) ∷ ‵ (SupOwn ss) ∷ ‵ (R.the-row .own r (u ∷ [])) ∷ [])
+              (runs C Λ En text.t-14 (atRet En Post))
+          freed r u bs ss k = returns ! (look ! 0 refl) $ forget ! 0 refl $ free1 ! $ free1 ! $ free1 ! $ free1 ! $ free1 ! $ free1 ! $ free1 ! $ free1 ! $ free1 ! $ free1 ! $ free1 ! $ free1 ! $ free1 ! $ free1 ! $ free1 ! $ free1 ! $ free1 ! $ free1 ! $ free1 ! $ free1 ! $ free1 ! $ free1 ! $ free1 ! $ free1 ! $ free1 ! $ free0 ! $ by ! k
+
           -- the turn that leaves the loop, and the rest of the body
           ends : (s : State) → n ≤ s .0 → Sq W (At s) (runs C Λ En text.turn-1 (anyQ (Turned s)))
           unfolding afterTurn
@@ -445,11 +462,9 @@ module _
               move ! (0 ∷ 4 ∷ []) $ unshares u8 ! tt (named 3) (named 0) κ₃ q₃ (holding u8 ss sup) (sv ∷ []) (still sup ss same-ss) ξ (subst (Room u8) (sym same-ss) sup-room) $
               move ! (3 ∷ 5 ∷ []) $ unshares u8 ! tt (named 2) (named 0) κ₂ q₂ (holding u8 bs base) (bv ∷ []) (still base bs same-bs) ν (subst (Room u8) (sym same-bs) base-room) $
               -- [base; κ₂'s token; sup; κ₃'s; true; the result; _6; _7; _13; …; _20; _12; _1; …; _5; κ₀'s, κ₁'s; what edges and frames own; _0; _8; …; _11; _21; …; _24; that each local dies]
-              returns ! (look ! 26 refl) $ forget ! 6 refl $ forget ! 7 refl $ forget ! 8 refl $ forget ! 16 refl $ forget ! 17 refl $ forget ! 18 refl $ forget ! 19 refl $ forget ! 20 refl $ forget ! 21 refl $ forget ! 26 refl $ forget ! 31 refl $ forget ! 32 refl $ forget ! 33 refl $ forget ! 34 refl $
-              -- each local's room, and that it dies
+              forget ! 6 refl $ forget ! 7 refl $ forget ! 8 refl $ forget ! 16 refl $ forget ! 17 refl $ forget ! 18 refl $ forget ! 19 refl $ forget ! 20 refl $ forget ! 21 refl $ forget ! 31 refl $ forget ! 32 refl $ forget ! 33 refl $ forget ! 34 refl $
               keep ! (26 ∷ 35 ∷ 17 ∷ 36 ∷ 18 ∷ 37 ∷ 19 ∷ 38 ∷ 20 ∷ 39 ∷ 21 ∷ 40 ∷ 6 ∷ 41 ∷ 7 ∷ 42 ∷ 27 ∷ 43 ∷ 28 ∷ 44 ∷ 29 ∷ 45 ∷ 30 ∷ 46 ∷ 16 ∷ 47 ∷ 8 ∷ 48 ∷ 9 ∷ 49 ∷ 10 ∷ 50 ∷ 11 ∷ 51 ∷ 12 ∷ 52 ∷ 13 ∷ 53 ∷ 14 ∷ 54 ∷ 15 ∷ 55 ∷ 31 ∷ 56 ∷ 32 ∷ 57 ∷ 33 ∷ 58 ∷ 34 ∷ 59 ∷ 22 ∷ 23 ∷ 1 ∷ 3 ∷ 0 ∷ 2 ∷ 5 ∷ []) $
-              free1 ! $ free1 ! $ free1 ! $ free1 ! $ free1 ! $ free1 ! $ free1 ! $ free1 ! $ free1 ! $ free1 ! $ free1 ! $ free1 ! $ free1 ! $ free1 ! $ free1 ! $ free1 ! $ free1 ! $ free1 ! $ free1 ! $ free1 ! $ free1 ! $ free1 ! $ free1 ! $ free1 ! $ free1 ! $ free0 ! $
-              by ! (exits r′ u bs ss same-bs same-ss (all-placed (now frames) dom es (started (now base) (now sup)) (now base) (now sup) refl i bs ss (outcomeOf r) (outcomeOf r′) past (s .1 .1 .1 .1 .1 .1 .1 .1 .1) finished))))))))
+              freed r′ u bs ss (exits r′ u bs ss same-bs same-ss (all-placed (now frames) dom es (started (now base) (now sup)) (now base) (now sup) refl i bs ss (outcomeOf r) (outcomeOf r′) past (s .1 .1 .1 .1 .1 .1 .1 .1 .1) finished))))))))
             where
               same-bs : length (bases s) ≡ length (now base)
               same-bs = s .1 .1 .1 .1 .1 .1 .1 .0
