@@ -20,7 +20,7 @@ use denote.Shadow.{pureL, pureI}
 use denote.Memory.{shares as shared}
 use denote.Ref.{RefT, ptr, name, now}
 use denote.Slice.{MutSlice, ShrSlice, Room, heres, finally, at-slice, codedHoleys, slice-vals}
-use denote.Index.{row, opens-slice, closes-slice}
+use denote.Index.{opens-slice, closes-slice}
 use denote.Lend.{Held, lends-shr-slice}
 use Rattle.lending.proofs.Again.{LentAgain, lends-again, comes-back}
 

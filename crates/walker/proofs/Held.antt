@@ -20,8 +20,7 @@ use denote.Plain.{uint-makes, uint-lawful}
 use denote.Builtin.{u64}
 use denote.Array.{Array, arrayVal, array-makes, array-lawful}
 use denote.Ref.{RefT}
-use denote.Signature.{Slot, plain, shrSliceOf, namedLft}
-use denote.Signature.Array.{arrayOf}
+use denote.Signature.{namedLft}
 use denote.Slice.{sliceVal, ShrSlice}
 use denote.Steps.{owned, nothing}
 use denote.Struct.At.{spelled}
@@ -31,8 +30,6 @@ use denote.Struct.Laws as LL
 use denote.Struct.Rest.{all-own, ownAt, rest, own-open, own-out}
 use denote.Struct.Struct.{within}
 use denote.Struct.Values.{Values}
-use denote.Triple.Walked.{stay-dropped, Goes, goes-dropped}
-use denote.Exit.{yes}
 use Rattle.walker.specs.declared.Walker.{Walker}
 use Rattle.walker.proofs.Walker as T
 use Rattle.walker.proofs.Walker.Laws as T′
@@ -53,19 +50,6 @@ sixVal ts = arrayVal (map (λ n. vint w64 n) ts)
 -- the struct's type, over the signature's lifetimes
 abbrev pub B : Lfts 1 → RattleType
 B κs = T.the-row (namedLft 1 0 tt κs)
-
--- the places of a signature
-abbrev pub words-slot : Slot 1
-words-slot = shrSliceOf (0 ∷ []) tt (plain (λ _. u64))
-
-abbrev pub six-slot : Slot 1
-six-slot = arrayOf (plain (λ _. u64)) 6
-
-abbrev pub number-slot : Slot 1
-number-slot = plain (λ _. u64)
-
-abbrev pub walker-slot : Slot 1
-walker-slot = plain B
 
 abbrev pub held : RefT (List ℕ) → List ℕ → Walker
 held s ts = record { words = s; tables = ts }
@@ -89,19 +73,6 @@ module _ {M : Type 1} (𝓤 : URA M) (H : Heap 𝓤) (A : Atoms 𝓤) (W : Given
 
   pub six-lawful : Lawful 𝓤 H A Six
   six-lawful = array-lawful 𝓤 H A W u64 (uint-lawful 𝓤 H A W w64) 6
-
-  -- none of them says anything at exit, so none is kept for it
-  pub words-go : Goes 𝓤 H A W 1 words-slot yes (stay-dropped words-slot yes)
-  words-go = goes-dropped 𝓤 H A W 1 words-slot yes (λ κs x f. refl)
-
-  pub six-go : Goes 𝓤 H A W 1 six-slot yes (stay-dropped six-slot yes)
-  six-go = goes-dropped 𝓤 H A W 1 six-slot yes (λ κs x f. refl)
-
-  pub number-go : Goes 𝓤 H A W 1 number-slot yes (stay-dropped number-slot yes)
-  number-go = goes-dropped 𝓤 H A W 1 number-slot yes (λ κs x f. refl)
-
-  pub walker-go : Goes 𝓤 H A W 1 walker-slot yes (stay-dropped walker-slot yes)
-  walker-go = goes-dropped 𝓤 H A W 1 walker-slot yes (λ κs x f. refl)
 
   module _ (κ : Lft) where
     abbrev D : Declared

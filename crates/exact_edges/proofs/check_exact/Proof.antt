@@ -3,7 +3,7 @@
 -- that they meet their contracts. Numbers, spans and edges own facts alone, had anew where a call asks for them (`owned`); the slices
 -- are `&`, had twice where a call takes one. At exit nothing is had of a parameter.
 -- Assumes nothing.
-use mathlib.Core.Path.{_≡_, refl, sym, _∙_, ap, subst}
+use mathlib.Core.Path.{_≡_, refl, sym, _∙_, subst}
 use Prim.Native.Nat.{ℕ, _+_, _-_, _*_, _≤_, _<_, _^_, zero-le}
 use native.Mathlib.Nat.{lt-of-le-of-lt}
 use native.Mathlib.Numerals.{add-one-le, add-one-dec}
@@ -40,7 +40,6 @@ use denote.Builtin.{u8, u16, u32}
 use denote.Index.{place-is}
 use denote.Ref.{RefT, now}
 use denote.Slice.{sliceTy, sliceVal, ShrSlice, Room, slice-vals, shr-slice-tells, shr-slice-lawful, shr-slice-copy}
-use denote.Signature.{Slot, plain}
 use denote.Steps.{owned, facts, peeks, heard, nothing}
 use denote.Enum.Laws as EL
 use denote.Struct.Laws as LL
@@ -51,7 +50,6 @@ use denote.Triple.Spec.{Meets, tripleOf}
 use denote.Triple.Table.{entered, cited}
 use denote.Triple.Walked.{says, Stays, walkOf, Walks, ends-at, walked, walk-meets}
 use denote.Triple.Clauses.{ensured, lasts}
-use denote.Exit.{yes}
 use Rattle.lending.proofs.Element.{element, shut}
 use Rattle.lending.proofs.Dropped.{dropped, dropped-go}
 use Rattle.edge.specs.Edge.{edgeOf}

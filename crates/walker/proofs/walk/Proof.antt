@@ -33,16 +33,16 @@ use denote.Triple.Call.{calls-at}
 use denote.Triple.Entry.{onEntry}
 use denote.Triple.Spec.{Meets, tripleOf}
 use denote.Triple.Table.{entered, cited}
-use denote.Triple.Walked.{says, Stays, stay-dropped, walkOf, Walks, ends-at, walked, walk-meets}
-use denote.Exit.{yes}
+use denote.Triple.Walked.{says, Stays, walkOf, Walks, ends-at, walked, walk-meets}
 use denote.Triple.Clauses.{ensured, lasts}
+use Rattle.lending.proofs.Dropped.{dropped, dropped-go}
 use Rattle.reach.specs.Reach.{toldOf}
 use Rattle.reach.specs.declared.Walked.{Walked}
 use Rattle.reach.proofs.Walked as S
 use Rattle.reach.proofs.Walked.Laws as S′
 use Rattle.walker.specs.Walker.{walkedFrom}
 use Rattle.walker.specs.declared.Walker.{Walker}
-use Rattle.walker.proofs.Held.{Words, Six, wordsVal, sixVal, B, words-slot, six-slot, number-slot, six-lawful, words-go, six-go, number-go}
+use Rattle.walker.proofs.Held.{Words, Six, wordsVal, sixVal, B, six-lawful}
 use Rattle.walker.proofs.Walker as T
 use Rattle.walker.proofs.Walker.Laws as T′
 use Rattle.walker.proofs.Walker.new as new
@@ -59,7 +59,7 @@ use Rattle.walker.proofs.walk.Statement as stated
 use Rattle.walker.proofs.walk.Code as code
 
 abbrev stayed : Stays (walk.ended .signature .params) (walk.ended .kept)
-stayed = (stay-dropped words-slot yes, (stay-dropped six-slot yes, (stay-dropped number-slot yes, tt)))
+stayed = dropped (walk.ended .signature .params) (walk.ended .kept)
 
 module _ {M : Type 1} (𝓤 : URA M) (H : Heap 𝓤) (A : Atoms 𝓤) (mem : Memory → SProp 𝓤) (run : Routine → Fun 𝓤) where
   -- the contracts that the proof cites
@@ -149,7 +149,7 @@ module _ {M : Type 1} (𝓤 : URA M) (H : Heap 𝓤) (A : Atoms 𝓤) (W : Given
 walk-meets′ : {M : Type 1} (𝓤 : URA M) (H : Heap 𝓤) (A : Atoms 𝓤) (W : Given 𝓤 H A) (mem : Memory → SProp 𝓤) (run : Routine → Fun 𝓤) (𝓣 : Tables 𝓤 H)
     → Triple 𝓤 (𝓣 .C #walker·new) (New 𝓤 H A mem run) → Triple 𝓤 (𝓣 .C #walker·method) (Method 𝓤 H A mem run)
     → Meets 𝓤 H A walk.signature (WpFn 𝓤 H (𝓣 .C) (𝓣 .Λ) code.function) (walk.spec 𝓤 H A mem run)
-walk-meets′ 𝓤 H A W mem run 𝓣 known-new known-method = walk-meets 𝓤 H A walk.ended stayed W (words-go 𝓤 H A W, (six-go 𝓤 H A W, (number-go 𝓤 H A W, tt))) (walk.clauses 𝓤 H A mem run) (WpFn 𝓤 H (𝓣 .C) (𝓣 .Λ) code.function) (WpFn-mono 𝓤 H (W .laws) 𝓣 code.function)
+walk-meets′ 𝓤 H A W mem run 𝓣 known-new known-method = walk-meets 𝓤 H A walk.ended stayed W (dropped-go 𝓤 H A W (walk.ended .signature .params) (walk.ended .kept) ((λ κs x f. refl), ((λ κs x f. refl), ((λ κs x f. refl), tt)))) (walk.clauses 𝓤 H A mem run) (WpFn 𝓤 H (𝓣 .C) (𝓣 .Λ) code.function) (WpFn-mono 𝓤 H (W .laws) 𝓣 code.function)
     (walk-walks 𝓤 H A W mem run (𝓣 .C) (𝓣 .Λ) (fmOf 𝓤 H (W .laws) 𝓣) known-new known-method)
 
 pub walk-spec : {M : Type 1} → stated.statement M
