@@ -115,10 +115,10 @@ pub fn exact(x: &Linked, form: Form) -> Outcome {
     }
 }
 
-/// The edges are lent as they are turned into.
+/// The call is lent the edges in the form that `lent` gives them.
 fn fill_by<E: Copy + PartialEq>(call: Fill<E>, x: &Filling, lent: fn(Edge) -> E) -> Filled {
-    let rows: Vec<E> = x.edges.iter().copied().map(lent).collect();
-    let mut edges = Fenced::new(&rows, lent(refused_edge(x)));
+    let given: Vec<E> = x.edges.iter().copied().map(lent).collect();
+    let mut edges = Fenced::new(&given, lent(refused_edge(x)));
     let mut frames = Fenced::new(&x.frames, table(x.dom, 4));
     let mut base = Fenced::new(&x.base, NO_PERMISSION);
     let mut sup = Fenced::new(&x.sup, NO_PERMISSION);
@@ -126,7 +126,7 @@ fn fill_by<E: Copy + PartialEq>(call: Fill<E>, x: &Filling, lent: fn(Edge) -> E)
     let outcome = outcome(|values| unsafe {
         call(
             edges.as_mut_ptr(),
-            rows.len(),
+            given.len(),
             frames.as_mut_ptr(),
             x.frames.len(),
             x.dom,
@@ -137,7 +137,7 @@ fn fill_by<E: Copy + PartialEq>(call: Fill<E>, x: &Filling, lent: fn(Edge) -> E)
             values,
         )
     });
-    let unchanged = edges.lent() == Some(&rows[..]) && frames.lent() == Some(&x.frames[..]);
+    let unchanged = edges.lent() == Some(&given[..]) && frames.lent() == Some(&x.frames[..]);
     assert!(unchanged, "a filling stores into the lists of {x}");
     let filled = |map: Fenced<u8>| match map.lent() {
         Some(map) => map.to_vec(),
@@ -175,9 +175,9 @@ pub fn authorized(x: &Granted) -> Outcome {
 }
 
 fn exact_by<E: Copy + PartialEq>(call: Exact<E>, x: &Linked, lent: fn(Edge) -> E) -> Outcome {
-    let rows: Vec<E> = x.edges.iter().copied().map(lent).collect();
+    let given: Vec<E> = x.edges.iter().copied().map(lent).collect();
     let mut map = Fenced::new(&x.map, NO_PERMISSION);
-    let mut edges = Fenced::new(&rows, lent(other_edge(x)));
+    let mut edges = Fenced::new(&given, lent(other_edge(x)));
     let mut frames = Fenced::new(&x.frames, table(x.dom, x.kind()));
     // SAFETY: the map and each list are as long as is said, and eight values are written.
     let outcome = outcome(|values| unsafe {
@@ -187,14 +187,14 @@ fn exact_by<E: Copy + PartialEq>(call: Exact<E>, x: &Linked, lent: fn(Edge) -> E
             x.map.len(),
             x.is_super,
             edges.as_mut_ptr(),
-            rows.len(),
+            given.len(),
             frames.as_mut_ptr(),
             x.frames.len(),
             values,
         )
     });
     let unchanged = map.lent() == Some(&x.map[..])
-        && edges.lent() == Some(&rows[..])
+        && edges.lent() == Some(&given[..])
         && frames.lent() == Some(&x.frames[..]);
     assert!(unchanged, "a check stores into {x}");
     outcome

@@ -232,16 +232,8 @@ module _
         𝓣 (fmOf 𝓤 H (W .laws) 𝓣) known-span known-check known-answer (are .1 .0) (are .1 .1 .1 .0) (are .1 .1 .1 .1 .0)))
 
     meets : Meets 𝓤 H A here.signature (WpFn 𝓤 H (𝓣 .C) (𝓣 .Λ) code.function) (here.spec 𝓤 H A mem run)
-    meets = walk-meets 𝓤 H A here.ended stayed W (
-      goes-dropped 𝓤 H A W 4 (plain (λ _. u16)) yes (λ κs x f. refl),
-      (
-        goes-dropped 𝓤 H A W 4 map-slot yes (λ κs x f. refl),
-        (
-          goes-dropped 𝓤 H A W 4 (plain (λ _. u32)) yes (λ κs x f. refl),
-          (goes-dropped 𝓤 H A W 4 edges-slot yes (λ κs x f. refl), (goes-dropped 𝓤 H A W 4 frames-slot yes (λ κs x f. refl), (goes-gave-ref 𝓤 H A W 4 3 tt values-slot, tt))),
-        ),
-      ),
-    )
+    meets = walk-meets 𝓤 H A here.ended stayed W
+        (goes-dropped 𝓤 H A W 4 (plain (λ _. u16)) yes (λ κs x f. refl), (goes-dropped 𝓤 H A W 4 map-slot yes (λ κs x f. refl), (goes-dropped 𝓤 H A W 4 (plain (λ _. u32)) yes (λ κs x f. refl), (goes-dropped 𝓤 H A W 4 edges-slot yes (λ κs x f. refl), (goes-dropped 𝓤 H A W 4 frames-slot yes (λ κs x f. refl), (goes-gave-ref 𝓤 H A W 4 3 tt values-slot, tt))))))
         (here.clauses 𝓤 H A mem run) (WpFn 𝓤 H (𝓣 .C) (𝓣 .Λ) code.function) (WpFn-mono 𝓤 H (W .laws) 𝓣 code.function) walks
 
 pub s2-exact-edges-spec : {M : Type 1} → stated.statement M

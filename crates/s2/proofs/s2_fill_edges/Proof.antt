@@ -227,16 +227,8 @@ module _
         𝓣 (fmOf 𝓤 H (W .laws) 𝓣) known-fill known-answer (are .0) (are .1 .0) (are .1 .1 .0 .1) (are .1 .1 .1 .0 .0 .1) (are .1 .1 .1 .1 .0 .0 .1)))
 
     meets : Meets 𝓤 H A here.signature (WpFn 𝓤 H (𝓣 .C) (𝓣 .Λ) code.function) (here.spec 𝓤 H A mem run)
-    meets = walk-meets 𝓤 H A here.ended stayed W (
-      goes-dropped 𝓤 H A W 5 edges-slot yes (λ κs x f. refl),
-      (
-        goes-dropped 𝓤 H A W 5 frames-slot yes (λ κs x f. refl),
-        (
-          goes-dropped 𝓤 H A W 5 (plain (λ _. u16)) yes (λ κs x f. refl),
-          (goes-gave-slice 𝓤 H A W 5 2 tt (plain (λ _. u8)), (goes-gave-slice 𝓤 H A W 5 3 tt (plain (λ _. u8)), (goes-gave-ref 𝓤 H A W 5 4 tt values-slot, tt))),
-        ),
-      ),
-    )
+    meets = walk-meets 𝓤 H A here.ended stayed W
+        (goes-dropped 𝓤 H A W 5 edges-slot yes (λ κs x f. refl), (goes-dropped 𝓤 H A W 5 frames-slot yes (λ κs x f. refl), (goes-dropped 𝓤 H A W 5 (plain (λ _. u16)) yes (λ κs x f. refl), (goes-gave-slice 𝓤 H A W 5 2 tt (plain (λ _. u8)), (goes-gave-slice 𝓤 H A W 5 3 tt (plain (λ _. u8)), (goes-gave-ref 𝓤 H A W 5 4 tt values-slot, tt))))))
         (here.clauses 𝓤 H A mem run) (WpFn 𝓤 H (𝓣 .C) (𝓣 .Λ) code.function) (WpFn-mono 𝓤 H (W .laws) 𝓣 code.function) walks
 
 pub s2-fill-edges-spec : {M : Type 1} → stated.statement M
