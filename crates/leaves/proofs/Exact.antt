@@ -8,7 +8,7 @@ use lib.ListN.{length, getD, length-set, length-replicate}
 use borrow.Author.Tests.{ltb-false, le-ltb, eq-eqb}
 use Rattle.edge.specs.Edge.{entryOf, counts}
 use Rattle.edge.specs.declared.Edge.{Edge}
-use Rattle.exact.specs.Exact.{lands, afterEdge, afterEdges, expected, row25, exactRows}
+use Rattle.exact.specs.Exact.{lands, afterEdge, afterEdges, expected, row25, comparedRows, exactRows}
 use Rattle.fields.specs.Named.{pick}
 use Rattle.filling.proofs.Onward.{on, off}
 use Rattle.filling.specs.Filling.{Filling, filling, mapOf, putIn, inMap, putUnder, placed, onward, unless, placedAll, cleared, filledInto, filled}
@@ -100,7 +100,7 @@ passes :
     length xs ≤ mapEntries →
     ((p : ℕ) → getD xs p 0 ≡ expected frames dom s edges p) →
     first (exactRows frames dom s edges xs) ≡ accepted
-unfolding exactRows readRows flatMap row2
+unfolding comparedRows readRows flatMap row2
 passes frames dom s edges xs short same =
     accept _
     (rw (
