@@ -101,8 +101,8 @@ module _ {M : Type 1} (𝓤 : URA M) (H : Heap 𝓤) (A : Atoms 𝓤) (mem : Mem
   abbrev Unmapped : Contract 𝓤
   Unmapped = tripleOf 𝓤 H A unmapped.signature (unmapped.spec 𝓤 H A mem run)
 
-  abbrev NotedC : Contract 𝓤
-  NotedC = tripleOf 𝓤 H A noted.signature (noted.spec 𝓤 H A mem run)
+  abbrev Note : Contract 𝓤
+  Note = tripleOf 𝓤 H A noted.signature (noted.spec 𝓤 H A mem run)
 
   abbrev Compare : Contract 𝓤
   Compare = tripleOf 𝓤 H A compare.signature (compare.spec 𝓤 H A mem run)
@@ -156,11 +156,11 @@ module _
 
     module _ (is-dom : dom < 2 ^ 16) (is-span : Is S.the-row span (sv ∷ [])) where
       -- what `noted` is passed: the entries xs, at the machine value v, and the edge e
-      abbrev to-noted : List ℕ → Val → Edge → NotedC 𝓤 H A mem run .Ghost
+      abbrev to-noted : List ℕ → Val → Edge → Note 𝓤 H A mem run .Ghost
       to-noted xs v e = (((κ₂, tt), (q₂, tt), tt, (xs, (e, (dom, (span, (frames, tt))))), (v ∷ [], (E′.lowered e ∷ [], (vint w16 dom ∷ [], (sv ∷ [], (fv ∷ [], tt)))))), tt)
 
       asks-noted : (xs : List ℕ) (v : Val) (e : Edge) → Is Entries xs (v ∷ []) → Is E.the-row e (E′.lowered e ∷ [])
-          → ent 𝓤 (sep 𝓤 (A .lft κ₂ q₂) (sem 𝓤 H A FramesOwn)) (NotedC 𝓤 H A mem run .pre (to-noted xs v e))
+          → ent 𝓤 (sep 𝓤 (A .lft κ₂ q₂) (sem 𝓤 H A FramesOwn)) (Note 𝓤 H A mem run .pre (to-noted xs v e))
       asks-noted xs v e is-xs is-e =
           qed W (‵ (flft κ₂ q₂) ∷ ‵ FramesOwn ∷ []) ∵ nothing ! $ move ! (2 ∷ 0 ∷ []) $ fjoin ! $
           owned ! S.the-row (Is S.the-row) (EL.makes S.the-type S′.the-plain 𝓤 H A) span _ is-span $ fjoin ! $
@@ -218,7 +218,7 @@ module _
       nearer-wf = InvImage·wf (λ (s : State). n - s .0) (Nat·lt-wfRel .wf)
 
       module _
-          (𝓣 : Tables 𝓤 H) (fm : FmC 𝓤 H (W .laws) (𝓣 .C)) (known-noted : Triple 𝓤 (𝓣 .C #noted) (NotedC 𝓤 H A mem run)) (known-compare : Triple 𝓤 (𝓣 .C #compare) (Compare 𝓤 H A mem run))
+          (𝓣 : Tables 𝓤 H) (fm : FmC 𝓤 H (W .laws) (𝓣 .C)) (known-noted : Triple 𝓤 (𝓣 .C #noted) (Note 𝓤 H A mem run)) (known-compare : Triple 𝓤 (𝓣 .C #compare) (Compare 𝓤 H A mem run))
           (room : Room E.the-row n) (l₀ l₁ l₂ l₃ l₄ l₅ l₆ l₇ l₈ l₉ l₁₀ l₁₁ l₁₂ : ℕ)
         where
           abbrev C : Calls 𝓤 H
@@ -287,9 +287,9 @@ module _
               shut E.the-row (LL.vals E.the-type E′.the-laws) (named 1) κ₁ q₁ edges i (edgeOf []) ! tt within q′ $
               -- [what edges owns; κ₁'s token; _6; …; _0; κ₀'s, κ₂'s; what leaves and frames own; …]: what frames owns is had twice, and one goes to `noted`
               move ! (18 ∷ []) $ use1 W (‵ FramesOwn ⊛ ‵ FramesOwn) (shr-slice-copy 𝓤 H A W (named 2) κ₂ Frame .twice frames (fv ∷ [])) $ split ! $ move ! (18 ∷ 0 ∷ []) $
-              use2 W (raw (NotedC 𝓤 H A mem run .pre (to-noted xs v e))) (asks-noted xs v e (s .1 .1 .1 .1 .0) is-e) $
+              use2 W (raw (Note 𝓤 H A mem run .pre (to-noted xs v e))) (asks-noted xs v e (s .1 .1 .1 .1 .0) is-e) $
               -- [what `noted` asks; what frames owns; what edges owns; κ₁'s token; _6; _7; _9; _10; _11; _12; _8; _1; _2; _3; _4; _5; _0; κ₀'s; what leaves owns; …]
-              calls-at ! fm (NotedC 𝓤 H A mem run) known-noted (to-noted xs v e)
+              calls-at ! fm (Note 𝓤 H A mem run) known-noted (to-noted xs v e)
               (and-then ! (load ! (from ! (stop !)) (look ! 4 refl)) (and-then ! (load ! (from ! (stop !)) (look ! 9 refl)) (and-then ! (load ! (from ! (stop !)) (look ! 11 refl)) (and-then ! (load ! (from ! (stop !)) (look ! 13 refl)) (and-then ! (load ! (from ! (stop !)) (look ! 15 refl)) (no-more !)))))) (λ u.
               use1 W (later (some (λ (r : List ℕ). ((‵ (flft κ₂ q₂) ⊛ ‵ ftrue) ⊛ ‵ (Entries .own r (u ∷ []))) ⊛ raw (ensured 𝓤 H A noted.ended (noted.clauses 𝓤 H A mem run) (κ₂, tt) (xs, (e, (dom, (span, (frames, tt))))) tt r)))) (id⊢ 𝓤 _) $ await ! tt $ pick ! (λ r.
               split ! $ move ! (1 ∷ []) $ use1 W (raw (fact 𝓤 (After xs e r))) (says-noted xs e r) $ heard ! (After xs e r) (λ after. split ! $ move ! (1 ∷ []) $
@@ -354,7 +354,7 @@ module _
       begun r blank = subst (Noted (now frames) dom span es 0) (sym blank) (none-noted (now frames) dom span es)
 
       -- the MIR, up to the loop
-      walk : (𝓣 : Tables 𝓤 H) → FmC 𝓤 H (W .laws) (𝓣 .C) → Triple 𝓤 (𝓣 .C #unmapped) (Unmapped 𝓤 H A mem run) → Triple 𝓤 (𝓣 .C #noted) (NotedC 𝓤 H A mem run) → Triple 𝓤 (𝓣 .C #compare) (Compare 𝓤 H A mem run)
+      walk : (𝓣 : Tables 𝓤 H) → FmC 𝓤 H (W .laws) (𝓣 .C) → Triple 𝓤 (𝓣 .C #unmapped) (Unmapped 𝓤 H A mem run) → Triple 𝓤 (𝓣 .C #noted) (Note 𝓤 H A mem run) → Triple 𝓤 (𝓣 .C #compare) (Compare 𝓤 H A mem run)
           → Is (ShrSlice (named 0) κ₀ u8) leaves (lv ∷ []) → Is (ShrSlice (named 1) κ₁ E.the-row) edges (ev ∷ []) → Is (ShrSlice (named 2) κ₂ Frame) frames (fv ∷ [])
           → ent 𝓤 (onEntry 𝓤 H A check.signature (κ₀, (κ₁, (κ₂, tt))) (q₀, (q₁, (q₂, tt))) a at) (WpFn 𝓤 H (𝓣 .C) (𝓣 .Λ) code.function (vint w16 dom ∷ lv ∷ sv ∷ ev ∷ fv ∷ []) Post)
       walk 𝓣 fm known-unmapped known-noted known-compare is-leaves is-edges is-frames =
@@ -385,7 +385,7 @@ module _
           asks-unmapped = qed W [] ∵ nothing ! $ nothing ! $ join ! $ frame ! $ done !
 
 module _ {M : Type 1} (𝓤 : URA M) (H : Heap 𝓤) (A : Atoms 𝓤) (W : Given 𝓤 H A) (mem : Memory → SProp 𝓤) (run : Routine → Fun 𝓤) (𝓣 : Tables 𝓤 H)
-    (known-unmapped : Triple 𝓤 (𝓣 .C #unmapped) (Unmapped 𝓤 H A mem run)) (known-noted : Triple 𝓤 (𝓣 .C #noted) (NotedC 𝓤 H A mem run)) (known-compare : Triple 𝓤 (𝓣 .C #compare) (Compare 𝓤 H A mem run)) where
+    (known-unmapped : Triple 𝓤 (𝓣 .C #unmapped) (Unmapped 𝓤 H A mem run)) (known-noted : Triple 𝓤 (𝓣 .C #noted) (Note 𝓤 H A mem run)) (known-compare : Triple 𝓤 (𝓣 .C #compare) (Compare 𝓤 H A mem run)) where
   check-walks : Walks 𝓤 H A check.ended stayed (WpFn 𝓤 H (𝓣 .C) (𝓣 .Λ) code.function) (check.clauses 𝓤 H A mem run)
   check-walks = walked 𝓤 H A check.ended stayed (check.clauses 𝓤 H A mem run) (WpFn 𝓤 H (𝓣 .C) (𝓣 .Λ) code.function)
       (λ κs. (uint-vals w16, (slice-vals, (EL.vals S.the-type S′.the-laws, (slice-vals, (slice-vals, tt))))))
@@ -406,5 +406,5 @@ check-exact-spec 𝓤 H 𝓜 𝓖 𝓡 =
     (tables 𝓤 H 𝓜 𝓡 code.env .C) (tables 𝓤 H 𝓜 𝓡 code.env .Λ) #check-exact code.function (code.unfolded 𝓤 H 𝓜 𝓡)
     (check-meets 𝓤 H (𝓖 .A) (givenOf 𝓤 H 𝓜 𝓖) (𝓜 .mem) (𝓡 .run) (tablesOf 𝓤 H 𝓜 (tables 𝓤 H 𝓜 𝓡 code.env))
     (cited 𝓤 H (Unmapped 𝓤 H (𝓖 .A) (𝓜 .mem) (𝓡 .run)) 𝓜 𝓡 code.env #unmapped unmapped-def.routine code.calls-exact·unmapped (unmapped-thm.met 𝓤 H 𝓜 𝓖 𝓡))
-    (cited 𝓤 H (NotedC 𝓤 H (𝓖 .A) (𝓜 .mem) (𝓡 .run)) 𝓜 𝓡 code.env #noted noted-def.routine code.calls-exact·noted (noted-thm.met 𝓤 H 𝓜 𝓖 𝓡))
+    (cited 𝓤 H (Note 𝓤 H (𝓖 .A) (𝓜 .mem) (𝓡 .run)) 𝓜 𝓡 code.env #noted noted-def.routine code.calls-exact·noted (noted-thm.met 𝓤 H 𝓜 𝓖 𝓡))
     (cited 𝓤 H (Compare 𝓤 H (𝓖 .A) (𝓜 .mem) (𝓡 .run)) 𝓜 𝓡 code.env #compare compare-def.routine code.calls-exact·compare (compare-thm.met 𝓤 H 𝓜 𝓖 𝓡)))
