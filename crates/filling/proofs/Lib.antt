@@ -1,5 +1,6 @@
 pub mod Both
 pub mod Filled
+pub mod Lengths
 pub mod Onward
 pub mod Placed
 pub mod SoFar

@@ -37,12 +37,16 @@ pub record Put : Type 0 where
 abbrev pub put : List ℕ → Outcome → Put
 put xs o = record { map = xs; outcome = o }
 
+-- row 16: a child past a map
+abbrev pub row16 : ℕ → List ℕ → Row
+row16 child xs = row 16 (child ∷ length xs ∷ [])
+
 -- a later edge overwrites; a child past that map is 16
 unfoldable pub putIn : List ℕ → Edge → Put
 putIn xs e =
     pick (ltb (e .child) (length xs))
     (put (set xs (e .child) (entryOf e)) accepted)
-    (put xs (refused (row 16 (e .child ∷ length xs ∷ []))))
+    (put xs (refused (row16 (e .child) xs)))
 
 abbrev pub inMap : Span → Put → Filling → Filling
 inMap Base p f = filling (p .map) (f .sup) (p .outcome)

@@ -1,35 +1,81 @@
--- `finish` meets its contract: a refusal is passed on.
-use mathlib.Core.Path.{_∙_, sym, ap}
+-- `finish` meets its contract: a refusal is told.
+use Prim.Native.Nat.{ℕ}
+use mathlib.Core.List.{List}
+use mathlib.Core.Path.{_≡_, refl, _∙_, sym, ap}
 use borrow.Author.Needs.{needs}
-use denote.Ref.{now}
-use Rattle.filling.specs.Filling.{filling, conflicts}
+use Rattle.filling.specs.Filling.{Filling, filling, onward, conflicts}
+use Rattle.filling.specs.Progress.{reached}
+use Rattle.filling.specs.declared.Progress.{Progress}
 use Rattle.filling.proofs.Onward.{on, off}
-use Rattle.refusal.specs.Outcome.{outcomeOf, rowOf}
 use Rattle.filling.proofs.finish.Statement.{statement}
 use Rattle.filling.proofs.finish.Tie as tie
 
 enum-told : tie.Need-enum-told
 enum-told c = search needs
 
-enum-told-2 : tie.Need-enum-told-2
-enum-told-2 c = search needs
-
-returns : tie.Need-returns
-returns c =
-    let refused = c .enum-told2 .given in
-    sym (off _ _ (rowOf (refused .0 .0)) (ap outcomeOf (refused .1)))
-
 no-conflict-requires : tie.Need-no-conflict-requires
 no-conflict-requires c κs = search needs
 
-returns-2 : tie.Need-returns-2
+enum-told-2 : tie.Need-enum-told-2
+enum-told-2 c = search needs
+
+enum-known-so-far : tie.Need-enum-known-so-far
+enum-known-so-far c = search needs
+
+cast-t9 : tie.Need-cast-t9
+cast-t9 c = search needs
+
+enum-known-so-far-2 : tie.Need-enum-known-so-far-2
+enum-known-so-far-2 c = search needs
+
+past-requires : tie.Need-past-requires
+past-requires c κs = search needs
+
+enum-known-so-far-3 : tie.Need-enum-known-so-far-3
+enum-known-so-far-3 c = search needs
+
+past-requires-2 : tie.Need-past-requires-2
+past-requires-2 c κs = search needs
+
+-- a step from what has been reached, by how it has been told
+after : (step : Filling → Filling) (base sup : List ℕ) {p q : Progress} → p ≡ q → onward step (reached base sup p) ≡ onward step (reached base sup q)
+after step base sup e = ap (λ r. onward step (reached base sup r)) e
+
+returns : tie.Need-returns
 unfolding conflicts
-returns-2 c =
+returns c =
     let told = c .before in
-    let a = told .before .before .before .before .args in
-    let accepts = ap outcomeOf (told .enum-told .given .1) in
-    let so-far = filling (now (a .base)) (now (a .sup)) in
-    ap so-far (c .no-conflict .ensures) ∙ sym (on conflicts (so-far (outcomeOf (a .so-far))) accepts)
+    ap (filling _ _) (c .no-conflict .ensures) ∙ sym (after conflicts _ _ (told .enum-told .given .1) ∙ on conflicts _ refl)
+
+returns-2 : tie.Need-returns-2
+returns-2 c = sym (after conflicts _ _ (c .enum-told2 .given .1) ∙ off conflicts _ _ refl)
+
+returns-3 : tie.Need-returns-3
+returns-3 c = sym (after conflicts _ _ (c .before .so-far .given .1) ∙ off conflicts _ _ refl)
+
+returns-4 : tie.Need-returns-4
+returns-4 c =
+    ap (filling _ _) (c .past .ensures) ∙ sym (after conflicts _ _ (c .before .before .so-far2 .given .1) ∙ off conflicts _ _ refl)
+
+returns-5 : tie.Need-returns-5
+returns-5 c =
+    ap (filling _ _) (c .past2 .ensures) ∙ sym (after conflicts _ _ (c .before .before .so-far3 .given .1) ∙ off conflicts _ _ refl)
 
 pub finish-spec : {M : Type 1} → statement M
-finish-spec = tie.close (tie.spec enum-told enum-told-2 returns no-conflict-requires returns-2)
+finish-spec =
+    tie.close
+    (tie.spec
+    enum-told
+    no-conflict-requires
+    enum-told-2
+    enum-known-so-far
+    cast-t9
+    enum-known-so-far-2
+    past-requires
+    enum-known-so-far-3
+    past-requires-2
+    returns
+    returns-2
+    returns-3
+    returns-4
+    returns-5)

@@ -2,6 +2,7 @@
 use mathlib.Core.Path.{_∙_, sym, ap, ap₂}
 use borrow.Author.Needs.{needs}
 use Rattle.filling.specs.Filling.{filling, started}
+use Rattle.filling.proofs.Lengths.{row-2}
 use Rattle.filling.proofs.Onward.{on, off}
 use Rattle.refusal.specs.Outcome.{outcomeOf, rowOf}
 use Rattle.refusal.specs.Table.{accepted}
@@ -28,7 +29,8 @@ unfolding started
 returns c =
     let v = c .before .before .map-lens in
     let refused = c .enum-told2 .given in
-    ap (filling _ _) (v .ensures) ∙ sym (off _ _ (rowOf (refused .0 .0)) (sym (v .ensures) ∙ ap outcomeOf (refused .1)))
+    let too-long = sym (v .ensures) ∙ ap outcomeOf (refused .1) in
+    sym (off _ _ (rowOf (refused .0 .0)) too-long ∙ ap (filling _ _) (too-long ∙ row-2 _ _ _ too-long))
 
 clear-requires : tie.Need-clear-requires
 clear-requires c κs = search needs

@@ -57,11 +57,15 @@ use Rattle.lending.proofs.Lent.{renamed, holding, lends, back, shares, unshares
 use Rattle.edge.specs.Edge.{edgeOf}
 use Rattle.edge.specs.declared.Edge.{Edge}
 use Rattle.filling.specs.Filling.{filling, placedNext, placedAll, onward, conflicts, started, filled}
+use Rattle.filling.specs.Progress.{reached}
+use Rattle.filling.specs.declared.Progress.{Progress}
 use Rattle.filling.proofs.SoFar.{PlacedTo, one-placed, all-placed}
 use Rattle.refusal.specs.Outcome.{outcomeOf}
 use Rattle.refusal.specs.declared.Verdict.{Verdict}
 use Rattle.edge.proofs.Edge as E
 use Rattle.edge.proofs.Edge.Laws as E′
+use Rattle.filling.proofs.Progress as P
+use Rattle.filling.proofs.Progress.Laws as P′
 use Rattle.refusal.proofs.Verdict as R
 use Rattle.refusal.proofs.Verdict.Laws as R′
 use Rattle.filling.proofs.start as start
@@ -190,58 +194,58 @@ module _
         qed W (‵ (flft (ν ∷ []) fullShare) ∷ ‵ (flft (ξ ∷ []) fullShare) ∷ ‵ (LentBase ν δ (now base)) ∷ ‵ (LentSup ξ ε (now sup)) ∷ []) ∵
         nothing ! $ move ! (4 ∷ 0 ∷ []) $ fjoin ! $ move ! (3 ∷ 0 ∷ []) $ fjoin ! $ nothing ! $ move ! (3 ∷ 0 ∷ []) $ join ! $ move ! (2 ∷ 0 ∷ []) $ join ! $ join ! $ frame ! $ done !
 
-    abbrev Begun : Verdict → List ℕ → List ℕ → Type 0
-    Begun r bs ss = filling bs ss (outcomeOf r) ≡ started (now base) (now sup)
+    abbrev Begun : Progress → List ℕ → List ℕ → Type 0
+    Begun r bs ss = reached bs ss r ≡ started (now base) (now sup)
 
-    says-start : (ν ξ : ℕ) (δ ε : GName) (r : Verdict)
+    says-start : (ν ξ : ℕ) (δ ε : GName) (r : Progress)
         → ent 𝓤 (ensured 𝓤 H A start.ended (start.clauses 𝓤 H A mem run) (ν ∷ [], (ξ ∷ [], tt)) (lent-base δ (now base), (lent-sup ε (now sup), tt)) tt r) (mean 𝓤 H A (Left δ ε (now base) (now sup) (Begun r)))
     says-start ν ξ δ ε r = exE 𝓤 _ (λ ws.
         qed W (‵ (lasts start.ended (ν ∷ [], (ξ ∷ [], tt)) (lent-base δ (now base), (lent-sup ε (now sup), tt)) ws) ∷ raw (fact 𝓤 (Begun r (ws .0) (ws .1 .0))) ∷ []) ∵
         move ! (1 ∷ []) $ heard ! _ (λ e. by ! (both-left δ ε (now base) (now sup) (Begun r) (ws .0) (ws .1 .0) e)))
 
     module _ (is-dom : dom < 2 ^ 16) where
-      -- what `place_next` is passed: the verdict so far, at the machine value v, the edge e, and maps with the entries bs and ss
-      abbrev to-next : ℕ → ℕ → GName → GName → Verdict → Val → Edge → List ℕ → List ℕ → Next 𝓤 H A mem run .Ghost
+      -- what `place_next` is passed: the progress so far, at the machine value v, the edge e, and maps with the entries bs and ss
+      abbrev to-next : ℕ → ℕ → GName → GName → Progress → Val → Edge → List ℕ → List ℕ → Next 𝓤 H A mem run .Ghost
       to-next ν ξ δ ε r v e bs ss =
           (((κ₁, (ν ∷ [], (ξ ∷ [], tt))), (q₁, (fullShare, (fullShare, tt))), tt, (r, (e, (frames, (dom, (lent-base δ bs, (lent-sup ε ss, tt)))))), (v ∷ [], (E′.lowered e ∷ [], (fv ∷ [], (vint w16 dom ∷ [], (bv ∷ [], (sv ∷ [], tt))))))), tt)
 
-      asks-next : (ν ξ : ℕ) (δ ε : GName) (r : Verdict) (v : Val) (e : Edge) (bs ss : List ℕ) → Is R.the-row r (v ∷ []) → Is E.the-row e (E′.lowered e ∷ [])
+      asks-next : (ν ξ : ℕ) (δ ε : GName) (r : Progress) (v : Val) (e : Edge) (bs ss : List ℕ) → Is P.the-row r (v ∷ []) → Is E.the-row e (E′.lowered e ∷ [])
           → ent 𝓤 (⋆ 𝓤 H A (‵ (flft κ₁ q₁) ∷ ‵ (flft (ν ∷ []) fullShare) ∷ ‵ (flft (ξ ∷ []) fullShare) ∷ ‵ FramesOwn ∷ ‵ (LentBase ν δ bs) ∷ ‵ (LentSup ξ ε ss) ∷ [])) (Next 𝓤 H A mem run .pre (to-next ν ξ δ ε r v e bs ss))
       asks-next ν ξ δ ε r v e bs ss is-r is-e =
           qed W (‵ (flft κ₁ q₁) ∷ ‵ (flft (ν ∷ []) fullShare) ∷ ‵ (flft (ξ ∷ []) fullShare) ∷ ‵ FramesOwn ∷ ‵ (LentBase ν δ bs) ∷ ‵ (LentSup ξ ε ss) ∷ []) ∵
           nothing ! $ move ! (6 ∷ 0 ∷ []) $ fjoin ! $ move ! (5 ∷ 0 ∷ []) $ fjoin ! $
           owned ! u16 (Is u16) (uint-makes 𝓤 H A W w16) dom _ (refl, is-dom) $ fjoin ! $ move ! (4 ∷ 0 ∷ []) $ fjoin ! $
           owned ! E.the-row (Is E.the-row) (LL.makes E.the-type E′.the-plain 𝓤 H A) e _ is-e $ fjoin ! $
-          owned ! R.the-row (Is R.the-row) (EL.makes R.the-type R′.the-plain 𝓤 H A) r _ is-r $ fjoin ! $
+          owned ! P.the-row (Is P.the-row) (EL.makes P.the-type P′.the-plain 𝓤 H A) r _ is-r $ fjoin ! $
           -- [what the arguments own; the three tokens]
           nothing ! $ move ! (4 ∷ 0 ∷ []) $ join ! $ move ! (3 ∷ 0 ∷ []) $ join ! $ move ! (2 ∷ 0 ∷ []) $ join ! $ join ! $ frame ! $ done !
 
-      abbrev Placed : Verdict → Edge → List ℕ → List ℕ → Verdict → List ℕ → List ℕ → Type 0
-      Placed r e bs ss r′ bs′ ss′ = filling bs′ ss′ (outcomeOf r′) ≡ placedNext (now frames) dom (filling bs ss (outcomeOf r)) e
+      abbrev Placed : Progress → Edge → List ℕ → List ℕ → Progress → List ℕ → List ℕ → Type 0
+      Placed r e bs ss r′ bs′ ss′ = reached bs′ ss′ r′ ≡ placedNext (now frames) dom (reached bs ss r) e
 
-      says-next : (ν ξ : ℕ) (δ ε : GName) (r : Verdict) (e : Edge) (bs ss : List ℕ) (r′ : Verdict)
+      says-next : (ν ξ : ℕ) (δ ε : GName) (r : Progress) (e : Edge) (bs ss : List ℕ) (r′ : Progress)
           → ent 𝓤 (ensured 𝓤 H A next.ended (next.clauses 𝓤 H A mem run) (κ₁, (ν ∷ [], (ξ ∷ [], tt))) (r, (e, (frames, (dom, (lent-base δ bs, (lent-sup ε ss, tt)))))) tt r′) (mean 𝓤 H A (Left δ ε bs ss (Placed r e bs ss r′)))
       says-next ν ξ δ ε r e bs ss r′ = exE 𝓤 _ (λ ws.
           qed W (‵ (lasts next.ended (κ₁, (ν ∷ [], (ξ ∷ [], tt))) (r, (e, (frames, (dom, (lent-base δ bs, (lent-sup ε ss, tt)))))) ws) ∷ raw (fact 𝓤 (Placed r e bs ss r′ (ws .1 .1 .1 .1 .0) (ws .1 .1 .1 .1 .1 .0))) ∷ []) ∵
           move ! (1 ∷ []) $ heard ! _ (λ said. fsplit ! $ drop ! $ fsplit ! $ drop ! $ fsplit ! $ drop ! $ fsplit ! $ drop ! $
           by ! (both-left δ ε bs ss (Placed r e bs ss r′) (ws .1 .1 .1 .1 .0) (ws .1 .1 .1 .1 .1 .0) said)))
 
-      abbrev to-finish : ℕ → ℕ → GName → GName → Verdict → Val → List ℕ → List ℕ → Finish 𝓤 H A mem run .Ghost
+      abbrev to-finish : ℕ → ℕ → GName → GName → Progress → Val → List ℕ → List ℕ → Finish 𝓤 H A mem run .Ghost
       to-finish ν ξ δ ε r v bs ss = (((ν ∷ [], (ξ ∷ [], tt)), (fullShare, (fullShare, tt)), tt, (r, (lent-base δ bs, (lent-sup ε ss, tt))), (v ∷ [], (bv ∷ [], (sv ∷ [], tt)))), tt)
 
-      asks-finish : (ν ξ : ℕ) (δ ε : GName) (r : Verdict) (v : Val) (bs ss : List ℕ) → Is R.the-row r (v ∷ [])
+      asks-finish : (ν ξ : ℕ) (δ ε : GName) (r : Progress) (v : Val) (bs ss : List ℕ) → Is P.the-row r (v ∷ [])
           → ent 𝓤 (⋆ 𝓤 H A (‵ (flft (ν ∷ []) fullShare) ∷ ‵ (flft (ξ ∷ []) fullShare) ∷ ‵ (ShrSlice (named 0) (ν ∷ []) u8 .own (lent-base δ bs) (bv ∷ [])) ∷ ‵ (ShrSlice (named 0) (ξ ∷ []) u8 .own (lent-sup ε ss) (sv ∷ [])) ∷ []))
           (Finish 𝓤 H A mem run .pre (to-finish ν ξ δ ε r v bs ss))
       asks-finish ν ξ δ ε r v bs ss is-r =
           qed W (‵ (flft (ν ∷ []) fullShare) ∷ ‵ (flft (ξ ∷ []) fullShare) ∷ ‵ (ShrSlice (named 0) (ν ∷ []) u8 .own (lent-base δ bs) (bv ∷ [])) ∷ ‵ (ShrSlice (named 0) (ξ ∷ []) u8 .own (lent-sup ε ss) (sv ∷ [])) ∷ []) ∵
           nothing ! $ move ! (4 ∷ 0 ∷ []) $ fjoin ! $ move ! (3 ∷ 0 ∷ []) $ fjoin ! $
-          owned ! R.the-row (Is R.the-row) (EL.makes R.the-type R′.the-plain 𝓤 H A) r _ is-r $ fjoin ! $
+          owned ! P.the-row (Is P.the-row) (EL.makes P.the-type P′.the-plain 𝓤 H A) r _ is-r $ fjoin ! $
           nothing ! $ move ! (3 ∷ 0 ∷ []) $ join ! $ move ! (2 ∷ 0 ∷ []) $ join ! $ join ! $ frame ! $ done !
 
-      abbrev Finished : Verdict → List ℕ → List ℕ → Verdict → Type 0
-      Finished r bs ss r′ = filling bs ss (outcomeOf r′) ≡ onward conflicts (filling bs ss (outcomeOf r))
+      abbrev Finished : Progress → List ℕ → List ℕ → Verdict → Type 0
+      Finished r bs ss r′ = filling bs ss (outcomeOf r′) ≡ onward conflicts (reached bs ss r)
 
-      says-finish : (ν ξ : ℕ) (δ ε : GName) (r : Verdict) (bs ss : List ℕ) (r′ : Verdict)
+      says-finish : (ν ξ : ℕ) (δ ε : GName) (r : Progress) (bs ss : List ℕ) (r′ : Verdict)
           → ent 𝓤 (ensured 𝓤 H A finish.ended (finish.clauses 𝓤 H A mem run) (ν ∷ [], (ξ ∷ [], tt)) (r, (lent-base δ bs, (lent-sup ε ss, tt))) tt r′) (fact 𝓤 (Finished r bs ss r′))
       says-finish ν ξ δ ε r bs ss r′ = exE 𝓤 _ (λ ws. snd∗ 𝓤 (sem 𝓤 H A (lasts finish.ended (ν ∷ [], (ξ ∷ [], tt)) (r, (lent-base δ bs, (lent-sup ε ss, tt))) ws)) _)
 
@@ -254,11 +258,11 @@ module _
           -- [what the maps own; the result]: of the other parameters nothing is had
           nothing ! $ move ! (2 ∷ 0 ∷ []) $ fjoin ! $ move ! (1 ∷ 0 ∷ []) $ fjoin ! $ nothing ! $ fjoin ! $ nothing ! $ fjoin ! $ nothing ! $ fjoin ! $ frame ! $ done !
 
-      -- the variant: a place i, the verdict so far at the machine value v, and maps with the entries bs and ss, in which the edges before i are placed
+      -- the variant: a place i, the progress so far at the machine value v, and maps with the entries bs and ss, in which the edges before i are placed
       abbrev State : Type 0
       State =
-          (i : ℕ) × ((r : Verdict) × ((v : Val) × ((bs : List ℕ) × ((ss : List ℕ)
-          × ((i ≤ n) × (Is R.the-row r (v ∷ []) × ((length bs ≡ length (now base)) × ((length ss ≡ length (now sup)) × PlacedTo (now frames) dom es (started (now base) (now sup)) i bs ss (outcomeOf r)))))))))
+          (i : ℕ) × ((r : Progress) × ((v : Val) × ((bs : List ℕ) × ((ss : List ℕ)
+          × ((i ≤ n) × (Is P.the-row r (v ∷ []) × ((length bs ≡ length (now base)) × ((length ss ≡ length (now sup)) × PlacedTo (now frames) dom es (started (now base) (now sup)) i (reached bs ss r)))))))))
 
       abbrev value : State → Val
       value s = s .1 .1 .0
@@ -320,14 +324,14 @@ module _
 
           abbrev En : Env 𝓤 H
           En =
-              (R′.mir, l₀) ∷ (τ₁, l₁) ∷ (τ₂, l₂) ∷ (tyInt w16, l₃) ∷ (τ₄, l₄) ∷ (τ₅, l₅) ∷ (R′.mir, l₆) ∷ (word, l₇) ∷ (ref, l₈)
+              (R′.mir, l₀) ∷ (τ₁, l₁) ∷ (τ₂, l₂) ∷ (tyInt w16, l₃) ∷ (τ₄, l₄) ∷ (τ₅, l₅) ∷ (P′.mir, l₆) ∷ (word, l₇) ∷ (ref, l₈)
               ∷ (τ₉, l₉) ∷ (ref, l₁₀) ∷ (τ₉, l₁₁) ∷ (word, l₁₂) ∷ (tyBool, l₁₃) ∷ (word, l₁₄) ∷ (tyPtr, l₁₅) ∷ (E′.mir, l₁₆) ∷ (ref, l₁₇)
               ∷ (τ₉, l₁₈) ∷ (ref, l₁₉) ∷ (τ₉, l₂₀) ∷ (shr, l₂₁) ∷ (τ₂₂, l₂₂) ∷ (shr, l₂₃) ∷ (τ₂₂, l₂₄) ∷ []
 
           -- [_6; _7; room for _13 to _20; _12; _1 to _5; four tokens; what edges, frames and the maps own; room for _0, _8 to _11 and _21 to _24; that each local dies]
           abbrev At : State → List (Item 𝓤)
           At s =
-              ‵ (fat fullShare R′.mir l₆ 0 (value s)) ∷ ‵ (fat fullShare word l₇ 0 (vint w64 (s .0)))
+              ‵ (fat fullShare P′.mir l₆ 0 (value s)) ∷ ‵ (fat fullShare word l₇ 0 (vint w64 (s .0)))
               ∷ ‵ (froom tyBool l₁₃ 0) ∷ ‵ (froom word l₁₄ 0) ∷ ‵ (froom tyPtr l₁₅ 0) ∷ ‵ (froom E′.mir l₁₆ 0)
               ∷ ‵ (froom ref l₁₇ 0) ∷ ‵ (froom τ₉ l₁₈ 0) ∷ ‵ (froom ref l₁₉ 0) ∷ ‵ (froom τ₉ l₂₀ 0)
               ∷ ‵ (fat fullShare word l₁₂ 0 (vint w64 n)) ∷ ‵ (fat fullShare τ₁ l₁ 0 ev) ∷ ‵ (fat fullShare τ₂ l₂ 0 fv)
@@ -336,7 +340,7 @@ module _
               ∷ ‵ (froom R′.mir l₀ 0) ∷ ‵ (froom ref l₈ 0) ∷ ‵ (froom τ₉ l₉ 0) ∷ ‵ (froom ref l₁₀ 0) ∷ ‵ (froom τ₉ l₁₁ 0)
               ∷ ‵ (froom shr l₂₁ 0) ∷ ‵ (froom τ₂₂ l₂₂ 0) ∷ ‵ (froom shr l₂₃ 0) ∷ ‵ (froom τ₂₂ l₂₄ 0)
               ∷ ‵ (fdies R′.mir l₀) ∷ ‵ (fdies τ₁ l₁) ∷ ‵ (fdies τ₂ l₂) ∷ ‵ (fdies (tyInt w16) l₃) ∷ ‵ (fdies τ₄ l₄) ∷ ‵ (fdies τ₅ l₅)
-              ∷ ‵ (fdies R′.mir l₆) ∷ ‵ (fdies word l₇) ∷ ‵ (fdies ref l₈) ∷ ‵ (fdies τ₉ l₉) ∷ ‵ (fdies ref l₁₀) ∷ ‵ (fdies τ₉ l₁₁)
+              ∷ ‵ (fdies P′.mir l₆) ∷ ‵ (fdies word l₇) ∷ ‵ (fdies ref l₈) ∷ ‵ (fdies τ₉ l₉) ∷ ‵ (fdies ref l₁₀) ∷ ‵ (fdies τ₉ l₁₁)
               ∷ ‵ (fdies word l₁₂) ∷ ‵ (fdies tyBool l₁₃) ∷ ‵ (fdies word l₁₄) ∷ ‵ (fdies tyPtr l₁₅) ∷ ‵ (fdies E′.mir l₁₆) ∷ ‵ (fdies ref l₁₇)
               ∷ ‵ (fdies τ₉ l₁₈) ∷ ‵ (fdies ref l₁₉) ∷ ‵ (fdies τ₉ l₂₀) ∷ ‵ (fdies shr l₂₁) ∷ ‵ (fdies τ₂₂ l₂₂) ∷ ‵ (fdies shr l₂₃)
               ∷ ‵ (fdies τ₂₂ l₂₄) ∷ []
@@ -383,11 +387,11 @@ module _
               -- [what `place_next` asks; what frames owns; what is kept of sup, of base; what edges owns; κ₀'s token; _6; _7; _13; …; _20; _12; _1; …; _5; …]
               calls-at ! fm (Next 𝓤 H A mem run) known-next (to-next ν ξ δ ε r v e bs ss)
               (and-then ! (load ! (from ! (stop !)) (look ! 6 refl)) (and-then ! (load ! (from ! (stop !)) (look ! 11 refl)) (and-then ! (load ! (from ! (stop !)) (look ! 18 refl)) (and-then ! (load ! (from ! (stop !)) (look ! 19 refl)) (and-then ! (load ! (from ! (stop !)) (look ! 13 refl)) (and-then ! (load ! (from ! (stop !)) (look ! 15 refl)) (no-more !))))))) (λ u.
-              use1 W (later (some (λ (r′ : Verdict). ((‵ (flft κ₁ q₁) ⊛ (‵ (flft (ν ∷ []) fullShare) ⊛ (‵ (flft (ξ ∷ []) fullShare) ⊛ ‵ ftrue))) ⊛ ‵ (R.the-row .own r′ (u ∷ []))) ⊛ raw (ensured 𝓤 H A next.ended (next.clauses 𝓤 H A mem run) (κ₁, (ν ∷ [], (ξ ∷ [], tt))) (r, (e, (frames, (dom, (lent-base δ bs, (lent-sup ε ss, tt)))))) tt r′)))) (id⊢ 𝓤 _) $ await ! tt $ pick ! (λ r′.
+              use1 W (later (some (λ (r′ : Progress). ((‵ (flft κ₁ q₁) ⊛ (‵ (flft (ν ∷ []) fullShare) ⊛ (‵ (flft (ξ ∷ []) fullShare) ⊛ ‵ ftrue))) ⊛ ‵ (P.the-row .own r′ (u ∷ []))) ⊛ raw (ensured 𝓤 H A next.ended (next.clauses 𝓤 H A mem run) (κ₁, (ν ∷ [], (ξ ∷ [], tt))) (r, (e, (frames, (dom, (lent-base δ bs, (lent-sup ε ss, tt)))))) tt r′)))) (id⊢ 𝓤 _) $ await ! tt $ pick ! (λ r′.
               split ! $ move ! (1 ∷ []) $ use1 W (Left δ ε bs ss (Placed r e bs ss r′)) (says-next ν ξ δ ε r e bs ss r′) $ pick ! (λ zs. learn ! (λ said. split ! $ move ! (2 ∷ []) $ split ! $ move ! (1 ∷ []) $
-              facts ! R.the-row (Is R.the-row) (shows 𝓤 H A R.the-row) r′ (u ∷ []) (λ is-r′.
+              facts ! P.the-row (Is P.the-row) (shows 𝓤 H A P.the-row) r′ (u ∷ []) (λ is-r′.
               -- [the three tokens; base's and sup's last entries; what frames owns; what is kept of sup, of base; what edges owns; κ₀'s; _6; …]
-              forget ! 8 refl $ land ! (from ! (stop !)) (init ! 8 refl (EL.lawful R.the-type R′.the-laws 𝓤 H A W tt .typed r′ _ is-r′ .0)) $
+              forget ! 8 refl $ land ! (from ! (stop !)) (init ! 8 refl (EL.lawful P.the-type P′.the-laws 𝓤 H A W tt .typed r′ _ is-r′ .0)) $
               split ! $ move ! (1 ∷ []) $ split ! $ move ! (1 ∷ []) $ split ! $
               -- [ξ's token; true; ν's; κ₁'s; the last entries; what frames owns; what is kept of sup, of base; …]: both maps are back
               move ! (0 ∷ 7 ∷ 5 ∷ []) $ back u8 ! tt (named 3) (named 0) κ₃ q₃ (holding u8 ss sup) (sv ∷ []) (still sup ss same-ss) ξ ε (zs .1) (subst (Room u8) (sym same-ss) sup-room) (said .1 .0) $
@@ -397,7 +401,7 @@ module _
               forget ! 10 refl $ forget ! 11 refl $ forget ! 12 refl $ forget ! 13 refl $ forget ! 14 refl $ forget ! 15 refl $ forget ! 16 refl $ forget ! 17 refl $
               move ! (8 ∷ 9 ∷ 10 ∷ 11 ∷ 12 ∷ 13 ∷ 14 ∷ 15 ∷ 16 ∷ 17 ∷ 18 ∷ 19 ∷ 20 ∷ 21 ∷ 22 ∷ 23 ∷ 7 ∷ 4 ∷ 1 ∷ 3 ∷ 6 ∷ 5 ∷ 0 ∷ 2 ∷ []) $
               again ! Nearer At s
-              (i + 1, (r′, (u, (zs .0, (zs .1, (add-one-le within, (is-r′, (said .0 ∙ same-bs, (said .1 .0 ∙ same-ss, one-placed (now frames) dom es (started (now base) (now sup)) i bs ss (zs .0) (zs .1) (outcomeOf r) (outcomeOf r′) (edgeOf []) within (s .1 .1 .1 .1 .1 .1 .1 .1 .1) (said .1 .1))))))))))
+              (i + 1, (r′, (u, (zs .0, (zs .1, (add-one-le within, (is-r′, (said .0 ∙ same-bs, (said .1 .0 ∙ same-ss, one-placed (now frames) dom es (started (now base) (now sup)) i (reached bs ss r) (reached (zs .0) (zs .1) r′) (edgeOf []) within (s .1 .1 .1 .1 .1 .1 .1 .1 .1) (said .1 .1))))))))))
               (add-one-dec n i within)))))))))
             where
               offset-fits : s .0 * 16 < 2 ^ 64
@@ -418,7 +422,7 @@ module _
               → Sq W
               (‵ (fat fullShare R′.mir l₀ 0 u) ∷ ‵ (fdies R′.mir l₀) ∷ ‵ (froom τ₁ l₁ 0) ∷ ‵ (fdies τ₁ l₁) ∷ ‵ (froom τ₂ l₂ 0) ∷ ‵ (fdies τ₂ l₂)
               ∷ ‵ (froom (tyInt w16) l₃ 0) ∷ ‵ (fdies (tyInt w16) l₃) ∷ ‵ (froom τ₄ l₄ 0) ∷ ‵ (fdies τ₄ l₄) ∷ ‵ (froom τ₅ l₅ 0) ∷ ‵ (fdies τ₅ l₅)
-              ∷ ‵ (froom R′.mir l₆ 0) ∷ ‵ (fdies R′.mir l₆) ∷ ‵ (froom word l₇ 0) ∷ ‵ (fdies word l₇) ∷ ‵ (froom ref l₈ 0) ∷ ‵ (fdies ref l₈)
+              ∷ ‵ (froom P′.mir l₆ 0) ∷ ‵ (fdies P′.mir l₆) ∷ ‵ (froom word l₇ 0) ∷ ‵ (fdies word l₇) ∷ ‵ (froom ref l₈ 0) ∷ ‵ (fdies ref l₈)
               ∷ ‵ (froom τ₉ l₉ 0) ∷ ‵ (fdies τ₉ l₉) ∷ ‵ (froom ref l₁₀ 0) ∷ ‵ (fdies ref l₁₀) ∷ ‵ (froom τ₉ l₁₁ 0) ∷ ‵ (fdies τ₉ l₁₁)
               ∷ ‵ (froom word l₁₂ 0) ∷ ‵ (fdies word l₁₂) ∷ ‵ (froom tyBool l₁₃ 0) ∷ ‵ (fdies tyBool l₁₃) ∷ ‵ (froom word l₁₄ 0) ∷ ‵ (fdies word l₁₄)
               ∷ ‵ (froom tyPtr l₁₅ 0) ∷ ‵ (fdies tyPtr l₁₅) ∷ ‵ (froom E′.mir l₁₆ 0) ∷ ‵ (fdies E′.mir l₁₆) ∷ ‵ (froom ref l₁₇ 0) ∷ ‵ (fdies ref l₁₇)
@@ -464,7 +468,7 @@ module _
               -- [base; κ₂'s token; sup; κ₃'s; true; the result; _6; _7; _13; …; _20; _12; _1; …; _5; κ₀'s, κ₁'s; what edges and frames own; _0; _8; …; _11; _21; …; _24; that each local dies]
               forget ! 6 refl $ forget ! 7 refl $ forget ! 8 refl $ forget ! 16 refl $ forget ! 17 refl $ forget ! 18 refl $ forget ! 19 refl $ forget ! 20 refl $ forget ! 21 refl $ forget ! 31 refl $ forget ! 32 refl $ forget ! 33 refl $ forget ! 34 refl $
               keep ! (26 ∷ 35 ∷ 17 ∷ 36 ∷ 18 ∷ 37 ∷ 19 ∷ 38 ∷ 20 ∷ 39 ∷ 21 ∷ 40 ∷ 6 ∷ 41 ∷ 7 ∷ 42 ∷ 27 ∷ 43 ∷ 28 ∷ 44 ∷ 29 ∷ 45 ∷ 30 ∷ 46 ∷ 16 ∷ 47 ∷ 8 ∷ 48 ∷ 9 ∷ 49 ∷ 10 ∷ 50 ∷ 11 ∷ 51 ∷ 12 ∷ 52 ∷ 13 ∷ 53 ∷ 14 ∷ 54 ∷ 15 ∷ 55 ∷ 31 ∷ 56 ∷ 32 ∷ 57 ∷ 33 ∷ 58 ∷ 34 ∷ 59 ∷ 22 ∷ 23 ∷ 1 ∷ 3 ∷ 0 ∷ 2 ∷ 5 ∷ []) $
-              freed r′ u bs ss (exits r′ u bs ss same-bs same-ss (all-placed (now frames) dom es (started (now base) (now sup)) (now base) (now sup) refl i bs ss (outcomeOf r) (outcomeOf r′) past (s .1 .1 .1 .1 .1 .1 .1 .1 .1) finished))))))))
+              freed r′ u bs ss (exits r′ u bs ss same-bs same-ss (all-placed (now frames) dom es (started (now base) (now sup)) (now base) (now sup) refl i (reached bs ss r) (filling bs ss (outcomeOf r′)) past (s .1 .1 .1 .1 .1 .1 .1 .1 .1) finished))))))))
             where
               same-bs : length (bases s) ≡ length (now base)
               same-bs = s .1 .1 .1 .1 .1 .1 .1 .0
@@ -508,11 +512,11 @@ module _
           use1 W (raw (Start 𝓤 H A mem run .pre (to-start ν ξ δ ε))) (asks-start ν ξ δ ε) $
           -- [what `start` asks; what is kept of sup, of base; true; what frames and edges own; true; κ₁'s, κ₀'s token; _24; …]
           calls-at ! fm (Start 𝓤 H A mem run) known-start (to-start ν ξ δ ε) (and-then ! (load ! (from ! (stop !)) (look ! 39 refl)) (and-then ! (load ! (from ! (stop !)) (look ! 35 refl)) (no-more !))) (λ u.
-          use1 W (later (some (λ (r : Verdict). ((‵ (flft (ν ∷ []) fullShare) ⊛ (‵ (flft (ξ ∷ []) fullShare) ⊛ ‵ ftrue)) ⊛ ‵ (R.the-row .own r (u ∷ []))) ⊛ raw (ensured 𝓤 H A start.ended (start.clauses 𝓤 H A mem run) (ν ∷ [], (ξ ∷ [], tt)) (lent-base δ (now base), (lent-sup ε (now sup), tt)) tt r)))) (id⊢ 𝓤 _) $ await ! tt $ pick ! (λ r.
+          use1 W (later (some (λ (r : Progress). ((‵ (flft (ν ∷ []) fullShare) ⊛ (‵ (flft (ξ ∷ []) fullShare) ⊛ ‵ ftrue)) ⊛ ‵ (P.the-row .own r (u ∷ []))) ⊛ raw (ensured 𝓤 H A start.ended (start.clauses 𝓤 H A mem run) (ν ∷ [], (ξ ∷ [], tt)) (lent-base δ (now base), (lent-sup ε (now sup), tt)) tt r)))) (id⊢ 𝓤 _) $ await ! tt $ pick ! (λ r.
           split ! $ move ! (1 ∷ []) $ use1 W (Left δ ε (now base) (now sup) (Begun r)) (says-start ν ξ δ ε r) $ pick ! (λ zs. learn ! (λ said. split ! $ move ! (2 ∷ []) $ split ! $ move ! (1 ∷ []) $
-          facts ! R.the-row (Is R.the-row) (shows 𝓤 H A R.the-row) r (u ∷ []) (λ is-r.
+          facts ! P.the-row (Is P.the-row) (shows 𝓤 H A P.the-row) r (u ∷ []) (λ is-r.
           -- [both tokens; base's and sup's last entries; what is kept of sup, of base; …; _24; …]
-          land ! (from ! (stop !)) (init ! 47 refl (EL.lawful R.the-type R′.the-laws 𝓤 H A W tt .typed r _ is-r .0)) $ split ! $ move ! (1 ∷ []) $ split ! $
+          land ! (from ! (stop !)) (init ! 47 refl (EL.lawful P.the-type P′.the-laws 𝓤 H A W tt .typed r _ is-r .0)) $ split ! $ move ! (1 ∷ []) $ split ! $
           -- [ξ's token; true; ν's; the last entries; what is kept of sup, of base; …]: both maps are back
           move ! (0 ∷ 5 ∷ 4 ∷ []) $ back u8 ! tt (named 3) (named 0) κ₃ q₃ sup (sv ∷ []) refl ξ ε (zs .1) (is-sup .0 .1) (said .1 .0) $
           move ! (3 ∷ 5 ∷ 4 ∷ []) $ back u8 ! tt (named 2) (named 0) κ₂ q₂ base (bv ∷ []) refl ν δ (zs .0) (is-base .0 .1) (said .0) $
