@@ -89,7 +89,7 @@ pub fn unmapped() -> [u8; Layout::ENTRIES]
 
 // The entries after one edge more.
 pub fn noted(
-    wanted: [u8; Layout::ENTRIES],
+    mut wanted: [u8; Layout::ENTRIES],
     e: Edge,
     dom: u16,
     span: Span,
@@ -97,9 +97,8 @@ pub fn noted(
 ) -> [u8; Layout::ENTRIES]
     ensures { λ r. ⌜ ((m : ℕ) → m < entries → getD r m 0 ≡ afterEdge (now (frames .entry)) dom span m (getD wanted m 0) e) ⌝ }
 {
-    let mut entries = wanted;
-    note(&mut entries, e, dom, span, frames);
-    entries
+    note(&mut wanted, e, dom, span, frames);
+    wanted
 }
 
 // The entries after one edge.

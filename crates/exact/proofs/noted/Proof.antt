@@ -14,7 +14,7 @@ note-requires c κs = search needs
 
 returns : tie.Need-returns
 returns c =
-    let whole : length (c .before .before .before .args .wanted) ≡ entries = search needs in
+    let whole : length (c .before .before .before .args .t1) ≡ entries = search needs in
     λ m inside. c .before .note .ensures m (rw whole inside)
 
 pub noted-spec : {M : Type 1} → statement M
