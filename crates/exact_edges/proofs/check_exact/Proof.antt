@@ -211,6 +211,12 @@ module _
       abbrev State : Type 0
       State = (i : ℕ) × ((xs : List ℕ) × ((v : Val) × ((i ≤ n) × (Is Entries xs (v ∷ []) × Noted (now frames) dom span es i xs))))
 
+      is-entries : (s : State) → Is Entries (s .1 .0) (s .1 .1 .0 ∷ [])
+      is-entries s = s .1 .1 .1 .1 .0
+
+      noted-to : (s : State) → Noted (now frames) dom span es (s .0) (s .1 .0)
+      noted-to s = s .1 .1 .1 .1 .1
+
       abbrev Nearer : State → State → Type 0
       Nearer t s = n - t .0 < n - s .0
 
@@ -287,7 +293,7 @@ module _
               shut E.the-row (LL.vals E.the-type E′.the-laws) (named 1) κ₁ q₁ edges i (edgeOf []) ! tt within q′ $
               -- [what edges owns; κ₁'s token; _6; …; _0; κ₀'s, κ₂'s; what leaves and frames own; …]: what frames owns is had twice, and one goes to `noted`
               move ! (18 ∷ []) $ use1 W (‵ FramesOwn ⊛ ‵ FramesOwn) (shr-slice-copy 𝓤 H A W (named 2) κ₂ Frame .twice frames (fv ∷ [])) $ split ! $ move ! (18 ∷ 0 ∷ []) $
-              use2 W (raw (Note 𝓤 H A mem run .pre (to-noted xs v e))) (asks-noted xs v e (s .1 .1 .1 .1 .0) is-e) $
+              use2 W (raw (Note 𝓤 H A mem run .pre (to-noted xs v e))) (asks-noted xs v e (is-entries s) is-e) $
               -- [what `noted` asks; what frames owns; what edges owns; κ₁'s token; _6; _7; _9; _10; _11; _12; _8; _1; _2; _3; _4; _5; _0; κ₀'s; what leaves owns; …]
               calls-at ! fm (Note 𝓤 H A mem run) known-noted (to-noted xs v e)
               (and-then ! (load ! (from ! (stop !)) (look ! 4 refl)) (and-then ! (load ! (from ! (stop !)) (look ! 9 refl)) (and-then ! (load ! (from ! (stop !)) (look ! 11 refl)) (and-then ! (load ! (from ! (stop !)) (look ! 13 refl)) (and-then ! (load ! (from ! (stop !)) (look ! 15 refl)) (no-more !)))))) (λ u.
@@ -298,7 +304,7 @@ module _
               assigns-last ! (bin ! (load ! (from ! (stop !)) (look ! 5 refl)) (lit ! tt) (record { fits = next-fits })) (from ! (stop !)) (store ! 5 refl (tt, record { fits = next-fits })) $
               forget ! 6 refl $ forget ! 7 refl $ forget ! 8 refl $ forget ! 9 refl $ split ! $
               keep ! (5 ∷ 6 ∷ 7 ∷ 8 ∷ 9 ∷ 10 ∷ 11 ∷ 12 ∷ 13 ∷ 14 ∷ 15 ∷ 16 ∷ 17 ∷ 18 ∷ 4 ∷ 0 ∷ 19 ∷ 3 ∷ 2 ∷ 20 ∷ 21 ∷ 22 ∷ 23 ∷ 24 ∷ 25 ∷ 26 ∷ 27 ∷ 28 ∷ 29 ∷ 30 ∷ 31 ∷ 32 ∷ []) $
-              again ! Nearer At s (i + 1, (r, (u, (add-one-le within, (is-r, one-noted (now frames) dom span es i xs r (edgeOf []) within (s .1 .1 .1 .1 .1) after))))) (add-one-dec n i within))))))
+              again ! Nearer At s (i + 1, (r, (u, (add-one-le within, (is-r, one-noted (now frames) dom span es i xs r (edgeOf []) within (noted-to s) after))))) (add-one-dec n i within))))))
             where
               offset-fits : s .0 * 16 < 2 ^ 64
               offset-fits = omega (arith, within, room .1)
@@ -326,7 +332,7 @@ module _
               let v = s .1 .1 .0 in
               assigns ! (bin ! (load ! (from ! (stop !)) (look ! 1 refl)) (load ! (from ! (stop !)) (look ! 6 refl)) tt) (from ! (stop !)) (init ! 2 refl (tt, tt)) $
               rewrite ! 2 (λ (t : Bool). ‵ (fat fullShare tyBool l₉ 0 (vbool t))) (le-ltb i n past) refl $ leaves-loop ! (load ! (from ! (stop !)) (look ! 2 refl)) $
-              exec ! C Λ En text.t-5 (atRet En Post) $ move ! (13 ∷ 16 ∷ []) $ use2 W (raw (Compare 𝓤 H A mem run .pre (to-compare xs v))) (asks-compare xs v (s .1 .1 .1 .1 .0)) $
+              exec ! C Λ En text.t-5 (atRet En Post) $ move ! (13 ∷ 16 ∷ []) $ use2 W (raw (Compare 𝓤 H A mem run .pre (to-compare xs v))) (asks-compare xs v (is-entries s)) $
               -- [what `compare` asks; _6; _7; _9; _10; _11; _12; _8; _1; _2; _3; _4; _5; _0; κ₁'s and κ₂'s token; what edges and frames own; …]
               calls-at ! fm (Compare 𝓤 H A mem run) known-compare (to-compare xs v)
               (and-then ! (load ! (from ! (stop !)) (look ! 8 refl)) (and-then ! (load ! (from ! (stop !)) (look ! 9 refl)) (and-then ! (load ! (from ! (stop !)) (look ! 10 refl)) (and-then ! (load ! (from ! (stop !)) (look ! 1 refl)) (no-more !))))) (λ u.
@@ -338,7 +344,7 @@ module _
               forget ! 2 refl $ forget ! 3 refl $ forget ! 4 refl $ forget ! 8 refl $ forget ! 9 refl $ forget ! 10 refl $ forget ! 11 refl $ forget ! 12 refl $ forget ! 13 refl $ move ! (1 ∷ []) $ split ! $
               -- [κ₀'s token; true; the result; _6; …]
               keep ! (15 ∷ 20 ∷ 10 ∷ 21 ∷ 11 ∷ 22 ∷ 12 ∷ 23 ∷ 13 ∷ 24 ∷ 14 ∷ 25 ∷ 3 ∷ 26 ∷ 4 ∷ 27 ∷ 9 ∷ 28 ∷ 5 ∷ 29 ∷ 6 ∷ 30 ∷ 7 ∷ 31 ∷ 8 ∷ 32 ∷ 0 ∷ 16 ∷ 17 ∷ 2 ∷ []) $
-              freed r u (exits r u (compared ∙ same-compared dom span _ _ (now leaves) (all-noted (now frames) dom span es i xs past (s .1 .1 .1 .1 .1))))))))
+              freed r u (exits r u (compared ∙ same-compared dom span _ _ (now leaves) (all-noted (now frames) dom span es i xs past (noted-to s))))))))
 
           turns : (s : State) → Sq W (At s) (runs C Λ En text.turn-1 (anyQ (Turned s)))
           turns s = go (ltb (s .0) n) refl

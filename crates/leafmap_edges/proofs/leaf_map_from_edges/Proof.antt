@@ -264,6 +264,9 @@ module _
           (i : ℕ) × ((r : Progress) × ((v : Val) × ((bs : List ℕ) × ((ss : List ℕ)
           × ((i ≤ n) × (Is P.the-row r (v ∷ []) × ((length bs ≡ length (now base)) × ((length ss ≡ length (now sup)) × PlacedTo (now frames) dom es (started (now base) (now sup)) i (reached bs ss r)))))))))
 
+      abbrev progress : State → Progress
+      progress s = s .1 .0
+
       abbrev value : State → Val
       value s = s .1 .1 .0
 
@@ -272,6 +275,18 @@ module _
 
       abbrev sups : State → List ℕ
       sups s = s .1 .1 .1 .1 .0
+
+      is-progress : (s : State) → Is P.the-row (progress s) (value s ∷ [])
+      is-progress s = s .1 .1 .1 .1 .1 .1 .0
+
+      same-bases : (s : State) → length (bases s) ≡ length (now base)
+      same-bases s = s .1 .1 .1 .1 .1 .1 .1 .0
+
+      same-sups : (s : State) → length (sups s) ≡ length (now sup)
+      same-sups s = s .1 .1 .1 .1 .1 .1 .1 .1 .0
+
+      placed-to : (s : State) → PlacedTo (now frames) dom es (started (now base) (now sup)) (s .0) (reached (bases s) (sups s) (progress s))
+      placed-to s = s .1 .1 .1 .1 .1 .1 .1 .1 .1
 
       abbrev Nearer : State → State → Type 0
       Nearer t s = n - t .0 < n - s .0
@@ -357,7 +372,7 @@ module _
           unfolding afterTurn
           more s within =
               let i = s .0 in
-              let r = s .1 .0 in
+              let r = progress s in
               let v = value s in
               let bs = bases s in
               let ss = sups s in
@@ -378,12 +393,12 @@ module _
               assigns ! (agg ! (and-then ! (load ! (from ! (stop !)) (look ! 8 refl)) (and-then ! (load ! (from ! (fld ! refl (stop !))) (look-in ! 16 (sub ! 1 refl (whole !)))) (no-more !)))) (from ! (stop !)) (init ! 9 refl (tt, (tt, (record { fits = base-room .0 }, tt)))) $
               assigns ! (addr ! (from ! (fld ! refl (hop ! (look-in ! 17 (sub ! 0 refl (whole !))) (stop !))))) (from ! (stop !)) (init ! 10 refl (tt, tt)) $
               assigns ! (agg ! (and-then ! (load ! (from ! (stop !)) (look ! 10 refl)) (and-then ! (load ! (from ! (fld ! refl (stop !))) (look-in ! 17 (sub ! 1 refl (whole !)))) (no-more !)))) (from ! (stop !)) (init ! 11 refl (tt, (tt, (record { fits = sup-room .0 }, tt)))) $
-              move ! (22 ∷ 19 ∷ []) $ lends u8 ! tt (named 2) (named 0) κ₂ q₂ (holding u8 bs base) (bv ∷ []) (still base bs same-bs) (λ ν δ.
+              move ! (22 ∷ 19 ∷ []) $ lends u8 ! tt (named 2) (named 0) κ₂ q₂ (holding u8 bs base) (bv ∷ []) (still base bs (same-bases s)) (λ ν δ.
               -- [ν's token; base, lent; what is kept of it; what edges owns; κ₀'s token; _6; …; _5; κ₁'s, κ₃'s; what frames and sup own; …]
-              move ! (24 ∷ 22 ∷ []) $ lends u8 ! tt (named 3) (named 0) κ₃ q₃ (holding u8 ss sup) (sv ∷ []) (still sup ss same-ss) (λ ξ ε.
+              move ! (24 ∷ 22 ∷ []) $ lends u8 ! tt (named 3) (named 0) κ₃ q₃ (holding u8 ss sup) (sv ∷ []) (still sup ss (same-sups s)) (λ ξ ε.
               -- [ξ's token; sup, lent; what is kept of it; the same of base; what edges owns; κ₀'s; _6; …; _5; κ₁'s; what frames owns; …]: what frames owns is had twice
               move ! (25 ∷ []) $ use1 W (‵ FramesOwn ⊛ ‵ FramesOwn) (shr-slice-copy 𝓤 H A W (named 1) κ₁ Frame .twice frames (fv ∷ [])) $ split ! $ move ! (26 ∷ 5 ∷ 2 ∷ 0 ∷ 6 ∷ 3 ∷ []) $ group ! 6 $
-              use1 W (raw (Next 𝓤 H A mem run .pre (to-next ν ξ δ ε r v e bs ss))) (asks-next ν ξ δ ε r v e bs ss (s .1 .1 .1 .1 .1 .1 .0) is-e) $
+              use1 W (raw (Next 𝓤 H A mem run .pre (to-next ν ξ δ ε r v e bs ss))) (asks-next ν ξ δ ε r v e bs ss (is-progress s) is-e) $
               -- [what `place_next` asks; what frames owns; what is kept of sup, of base; what edges owns; κ₀'s token; _6; _7; _13; …; _20; _12; _1; …; _5; …]
               calls-at ! fm (Next 𝓤 H A mem run) known-next (to-next ν ξ δ ε r v e bs ss)
               (and-then ! (load ! (from ! (stop !)) (look ! 6 refl)) (and-then ! (load ! (from ! (stop !)) (look ! 11 refl)) (and-then ! (load ! (from ! (stop !)) (look ! 18 refl)) (and-then ! (load ! (from ! (stop !)) (look ! 19 refl)) (and-then ! (load ! (from ! (stop !)) (look ! 13 refl)) (and-then ! (load ! (from ! (stop !)) (look ! 15 refl)) (no-more !))))))) (λ u.
@@ -394,14 +409,14 @@ module _
               forget ! 8 refl $ land ! (from ! (stop !)) (init ! 8 refl (EL.lawful P.the-type P′.the-laws 𝓤 H A W tt .typed r′ _ is-r′ .0)) $
               split ! $ move ! (1 ∷ []) $ split ! $ move ! (1 ∷ []) $ split ! $
               -- [ξ's token; true; ν's; κ₁'s; the last entries; what frames owns; what is kept of sup, of base; …]: both maps are back
-              move ! (0 ∷ 7 ∷ 5 ∷ []) $ back u8 ! tt (named 3) (named 0) κ₃ q₃ (holding u8 ss sup) (sv ∷ []) (still sup ss same-ss) ξ ε (zs .1) (subst (Room u8) (sym same-ss) sup-room) (said .1 .0) $
-              move ! (3 ∷ 7 ∷ 5 ∷ []) $ back u8 ! tt (named 2) (named 0) κ₂ q₂ (holding u8 bs base) (bv ∷ []) (still base bs same-bs) ν δ (zs .0) (subst (Room u8) (sym same-bs) base-room) (said .0) $ move ! (4 ∷ []) $ drop ! $
+              move ! (0 ∷ 7 ∷ 5 ∷ []) $ back u8 ! tt (named 3) (named 0) κ₃ q₃ (holding u8 ss sup) (sv ∷ []) (still sup ss (same-sups s)) ξ ε (zs .1) (subst (Room u8) (sym (same-sups s)) sup-room) (said .1 .0) $
+              move ! (3 ∷ 7 ∷ 5 ∷ []) $ back u8 ! tt (named 2) (named 0) κ₂ q₂ (holding u8 bs base) (bv ∷ []) (still base bs (same-bases s)) ν δ (zs .0) (subst (Room u8) (sym (same-bases s)) base-room) (said .0) $ move ! (4 ∷ []) $ drop ! $
               -- [base; κ₂'s token; sup; κ₃'s; κ₁'s; what frames owns; what edges owns; κ₀'s; _6; _7; _13; …; _20; _12; _1; …; _5; …]
               assigns-last ! (bin ! (load ! (from ! (stop !)) (look ! 9 refl)) (lit ! tt) (record { fits = next-fits })) (from ! (stop !)) (store ! 9 refl (tt, record { fits = next-fits })) $
               forget ! 10 refl $ forget ! 11 refl $ forget ! 12 refl $ forget ! 13 refl $ forget ! 14 refl $ forget ! 15 refl $ forget ! 16 refl $ forget ! 17 refl $
               move ! (8 ∷ 9 ∷ 10 ∷ 11 ∷ 12 ∷ 13 ∷ 14 ∷ 15 ∷ 16 ∷ 17 ∷ 18 ∷ 19 ∷ 20 ∷ 21 ∷ 22 ∷ 23 ∷ 7 ∷ 4 ∷ 1 ∷ 3 ∷ 6 ∷ 5 ∷ 0 ∷ 2 ∷ []) $
               again ! Nearer At s
-              (i + 1, (r′, (u, (zs .0, (zs .1, (add-one-le within, (is-r′, (said .0 ∙ same-bs, (said .1 .0 ∙ same-ss, one-placed (now frames) dom es (started (now base) (now sup)) i (reached bs ss r) (reached (zs .0) (zs .1) r′) (edgeOf []) within (s .1 .1 .1 .1 .1 .1 .1 .1 .1) (said .1 .1))))))))))
+              (i + 1, (r′, (u, (zs .0, (zs .1, (add-one-le within, (is-r′, (said .0 ∙ (same-bases s), (said .1 .0 ∙ (same-sups s), one-placed (now frames) dom es (started (now base) (now sup)) i (reached bs ss r) (reached (zs .0) (zs .1) r′) (edgeOf []) within (placed-to s) (said .1 .1))))))))))
               (add-one-dec n i within)))))))))
             where
               offset-fits : s .0 * 16 < 2 ^ 64
@@ -409,12 +424,6 @@ module _
 
               next-fits : s .0 + 1 < 2 ^ 64
               next-fits = lt-of-le-of-lt (add-one-le within) (room .0)
-
-              same-bs : length (bases s) ≡ length (now base)
-              same-bs = s .1 .1 .1 .1 .1 .1 .1 .0
-
-              same-ss : length (sups s) ≡ length (now sup)
-              same-ss = s .1 .1 .1 .1 .1 .1 .1 .1 .0
 
           -- the result is read, and each local's room goes with what says that it dies
           freed : (r : Verdict) (u : Val) (bs ss : List ℕ)
@@ -438,7 +447,7 @@ module _
           unfolding afterTurn
           ends s past =
               let i = s .0 in
-              let r = s .1 .0 in
+              let r = progress s in
               let v = value s in
               let bs = bases s in
               let ss = sups s in
@@ -450,10 +459,10 @@ module _
               assigns ! (agg ! (and-then ! (load ! (from ! (stop !)) (look ! 29 refl)) (and-then ! (load ! (from ! (fld ! refl (stop !))) (look-in ! 14 (sub ! 1 refl (whole !)))) (no-more !)))) (from ! (stop !)) (init ! 30 refl (tt, (tt, (record { fits = base-room .0 }, tt)))) $
               assigns ! (addr ! (from ! (fld ! refl (hop ! (look-in ! 15 (sub ! 0 refl (whole !))) (stop !))))) (from ! (stop !)) (init ! 31 refl (tt, tt)) $
               assigns ! (agg ! (and-then ! (load ! (from ! (stop !)) (look ! 31 refl)) (and-then ! (load ! (from ! (fld ! refl (stop !))) (look-in ! 15 (sub ! 1 refl (whole !)))) (no-more !)))) (from ! (stop !)) (init ! 32 refl (tt, (tt, (record { fits = sup-room .0 }, tt)))) $
-              move ! (22 ∷ 18 ∷ []) $ shares u8 ! tt (named 2) (named 0) κ₂ q₂ (holding u8 bs base) (bv ∷ []) (still base bs same-bs) (λ ν δ.
+              move ! (22 ∷ 18 ∷ []) $ shares u8 ! tt (named 2) (named 0) κ₂ q₂ (holding u8 bs base) (bv ∷ []) (still base bs (same-bases s)) (λ ν δ.
               -- [ν's token; base, lent; what is kept of it; _6; …; _5; κ₀'s, κ₁'s, κ₃'s; what edges, frames and sup own; …]
-              move ! (24 ∷ 21 ∷ []) $ shares u8 ! tt (named 3) (named 0) κ₃ q₃ (holding u8 ss sup) (sv ∷ []) (still sup ss same-ss) (λ ξ ε. move ! (3 ∷ 0 ∷ 4 ∷ 1 ∷ []) $ group ! 4 $
-              use1 W (raw (Finish 𝓤 H A mem run .pre (to-finish ν ξ δ ε r v bs ss))) (asks-finish ν ξ δ ε r v bs ss (s .1 .1 .1 .1 .1 .1 .0)) $
+              move ! (24 ∷ 21 ∷ []) $ shares u8 ! tt (named 3) (named 0) κ₃ q₃ (holding u8 ss sup) (sv ∷ []) (still sup ss (same-sups s)) (λ ξ ε. move ! (3 ∷ 0 ∷ 4 ∷ 1 ∷ []) $ group ! 4 $
+              use1 W (raw (Finish 𝓤 H A mem run .pre (to-finish ν ξ δ ε r v bs ss))) (asks-finish ν ξ δ ε r v bs ss (is-progress s)) $
               -- [what `finish` asks; what is kept of sup, of base; _6; …; _5; κ₀'s, κ₁'s; what edges and frames own; room for _0; _8; …; _11; _21; …; _24; …]
               calls-at ! fm (Finish 𝓤 H A mem run) known-finish (to-finish ν ξ δ ε r v bs ss) (and-then ! (load ! (from ! (stop !)) (look ! 3 refl)) (and-then ! (load ! (from ! (stop !)) (look ! 29 refl)) (and-then ! (load ! (from ! (stop !)) (look ! 31 refl)) (no-more !)))) (λ u.
               use1 W (later (some (λ (r′ : Verdict). ((‵ (flft (ν ∷ []) fullShare) ⊛ (‵ (flft (ξ ∷ []) fullShare) ⊛ ‵ ftrue)) ⊛ ‵ (R.the-row .own r′ (u ∷ []))) ⊛ raw (ensured 𝓤 H A finish.ended (finish.clauses 𝓤 H A mem run) (ν ∷ [], (ξ ∷ [], tt)) (r, (lent-base δ bs, (lent-sup ε ss, tt))) tt r′)))) (id⊢ 𝓤 _) $ await ! tt $ pick ! (λ r′.
@@ -463,18 +472,12 @@ module _
               land ! (from ! (stop !)) (init ! 24 refl (EL.lawful R.the-type R′.the-laws 𝓤 H A W tt .typed r′ _ is-r′ .0)) $
               move ! (1 ∷ []) $ split ! $ move ! (1 ∷ []) $ split ! $
               -- [ξ's token; true; ν's; the result; what is kept of sup, of base; …]: both maps are back
-              move ! (0 ∷ 4 ∷ []) $ unshares u8 ! tt (named 3) (named 0) κ₃ q₃ (holding u8 ss sup) (sv ∷ []) (still sup ss same-ss) ξ (subst (Room u8) (sym same-ss) sup-room) $
-              move ! (3 ∷ 5 ∷ []) $ unshares u8 ! tt (named 2) (named 0) κ₂ q₂ (holding u8 bs base) (bv ∷ []) (still base bs same-bs) ν (subst (Room u8) (sym same-bs) base-room) $
+              move ! (0 ∷ 4 ∷ []) $ unshares u8 ! tt (named 3) (named 0) κ₃ q₃ (holding u8 ss sup) (sv ∷ []) (still sup ss (same-sups s)) ξ (subst (Room u8) (sym (same-sups s)) sup-room) $
+              move ! (3 ∷ 5 ∷ []) $ unshares u8 ! tt (named 2) (named 0) κ₂ q₂ (holding u8 bs base) (bv ∷ []) (still base bs (same-bases s)) ν (subst (Room u8) (sym (same-bases s)) base-room) $
               -- [base; κ₂'s token; sup; κ₃'s; true; the result; _6; _7; _13; …; _20; _12; _1; …; _5; κ₀'s, κ₁'s; what edges and frames own; _0; _8; …; _11; _21; …; _24; that each local dies]
               forget ! 6 refl $ forget ! 7 refl $ forget ! 8 refl $ forget ! 16 refl $ forget ! 17 refl $ forget ! 18 refl $ forget ! 19 refl $ forget ! 20 refl $ forget ! 21 refl $ forget ! 31 refl $ forget ! 32 refl $ forget ! 33 refl $ forget ! 34 refl $
               keep ! (26 ∷ 35 ∷ 17 ∷ 36 ∷ 18 ∷ 37 ∷ 19 ∷ 38 ∷ 20 ∷ 39 ∷ 21 ∷ 40 ∷ 6 ∷ 41 ∷ 7 ∷ 42 ∷ 27 ∷ 43 ∷ 28 ∷ 44 ∷ 29 ∷ 45 ∷ 30 ∷ 46 ∷ 16 ∷ 47 ∷ 8 ∷ 48 ∷ 9 ∷ 49 ∷ 10 ∷ 50 ∷ 11 ∷ 51 ∷ 12 ∷ 52 ∷ 13 ∷ 53 ∷ 14 ∷ 54 ∷ 15 ∷ 55 ∷ 31 ∷ 56 ∷ 32 ∷ 57 ∷ 33 ∷ 58 ∷ 34 ∷ 59 ∷ 22 ∷ 23 ∷ 1 ∷ 3 ∷ 0 ∷ 2 ∷ 5 ∷ []) $
-              freed r′ u bs ss (exits r′ u bs ss same-bs same-ss (all-placed (now frames) dom es (started (now base) (now sup)) (now base) (now sup) refl i (reached bs ss r) (filling bs ss (outcomeOf r′)) past (s .1 .1 .1 .1 .1 .1 .1 .1 .1) finished))))))))
-            where
-              same-bs : length (bases s) ≡ length (now base)
-              same-bs = s .1 .1 .1 .1 .1 .1 .1 .0
-
-              same-ss : length (sups s) ≡ length (now sup)
-              same-ss = s .1 .1 .1 .1 .1 .1 .1 .1 .0
+              freed r′ u bs ss (exits r′ u bs ss (same-bases s) (same-sups s) (all-placed (now frames) dom es (started (now base) (now sup)) (now base) (now sup) refl i (reached bs ss r) (filling bs ss (outcomeOf r′)) past (placed-to s) finished))))))))
 
           turns : (s : State) → Sq W (At s) (runs C Λ En text.turn-1 (anyQ (Turned s)))
           turns s = go (ltb (s .0) n) refl
