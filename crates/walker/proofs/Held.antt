@@ -30,6 +30,7 @@ use denote.Struct.Laws as LL
 use denote.Struct.Rest.{all-own, ownAt, rest, own-open, own-out}
 use denote.Struct.Struct.{within}
 use denote.Struct.Values.{Values}
+use Rattle.layout.specs.Size.{tableCount}
 use Rattle.walker.specs.declared.Walker.{Walker}
 use Rattle.walker.proofs.Walker as T
 use Rattle.walker.proofs.Walker.Laws as T′
@@ -38,14 +39,14 @@ use Rattle.walker.proofs.Walker.Laws as T′
 abbrev pub Words : Lft → RattleType
 Words κ = ShrSlice (named 0) κ u64
 
-abbrev pub Six : RattleType
-Six = Array u64 6
+abbrev pub Addresses : RattleType
+Addresses = Array u64 tableCount
 
 abbrev pub wordsVal : RefT (List ℕ) → Val
 wordsVal s = sliceVal (s .ptr) (length (s .now))
 
-abbrev pub sixVal : List ℕ → Val
-sixVal ts = arrayVal (map (λ n. vint w64 n) ts)
+abbrev pub addressesVal : List ℕ → Val
+addressesVal ts = arrayVal (map (λ n. vint w64 n) ts)
 
 -- the struct's type, over the signature's lifetimes
 abbrev pub B : Lfts 1 → RattleType
@@ -54,25 +55,25 @@ B κs = T.the-row (namedLft 1 0 tt κs)
 abbrev pub held : RefT (List ℕ) → List ℕ → Walker
 held s ts = record { words = s; tables = ts }
 
-as-field : (ts : List ℕ) → Is Six ts (sixVal ts ∷ []) → Is Six (map (λ (n : ℕ). n) ts) (sixVal ts ∷ [])
-as-field ts = subst (λ (xs : List ℕ). Is Six xs (sixVal ts ∷ [])) (sym (map-id ts))
+as-field : (ts : List ℕ) → Is Addresses ts (addressesVal ts ∷ []) → Is Addresses (map (λ (n : ℕ). n) ts) (addressesVal ts ∷ [])
+as-field ts = subst (λ (xs : List ℕ). Is Addresses xs (addressesVal ts ∷ [])) (sym (map-id ts))
 
 -- the relation of a walker, from its fields', and its addresses', from its own
-pub is-held : (κ : Lft) (s : RefT (List ℕ)) (ts : List ℕ) → Is (Words κ) s (wordsVal s ∷ []) → Is Six ts (sixVal ts ∷ []) → Is (B (κ, tt)) (held s ts) (T′.lowered (held s ts) ∷ [])
-is-held κ s ts p q = ((wordsVal s ∷ [], (sixVal ts ∷ [], tt)), (refl, (p, (as-field ts q, tt))))
+pub is-held : (κ : Lft) (s : RefT (List ℕ)) (ts : List ℕ) → Is (Words κ) s (wordsVal s ∷ []) → Is Addresses ts (addressesVal ts ∷ []) → Is (B (κ, tt)) (held s ts) (T′.lowered (held s ts) ∷ [])
+is-held κ s ts p q = ((wordsVal s ∷ [], (addressesVal ts ∷ [], tt)), (refl, (p, (as-field ts q, tt))))
 
-pub is-six : (κ : Lft) (d : Walker) (vs : List Val) → Is (B (κ, tt)) d vs → Is Six (d .tables) (sixVal (d .tables) ∷ [])
-is-six κ d vs p =
-    let field : Is Six (map (λ (n : ℕ). n) (d .tables)) (p .0 .1 .0) = p .1 .1 .1 .0 in
-    subst (λ (xs : List ℕ). Is Six xs (sixVal (d .tables) ∷ [])) (map-id (d .tables))
-    (subst (Is Six (map (λ (n : ℕ). n) (d .tables))) (LL.array-laws u64-field LL.u64-laws 6 .low-is (d .tables) _ field) field)
+pub are-addresses : (κ : Lft) (d : Walker) (vs : List Val) → Is (B (κ, tt)) d vs → Is Addresses (d .tables) (addressesVal (d .tables) ∷ [])
+are-addresses κ d vs p =
+    let field : Is Addresses (map (λ (n : ℕ). n) (d .tables)) (p .0 .1 .0) = p .1 .1 .1 .0 in
+    subst (λ (xs : List ℕ). Is Addresses xs (addressesVal (d .tables) ∷ [])) (map-id (d .tables))
+    (subst (Is Addresses (map (λ (n : ℕ). n) (d .tables))) (LL.array-laws u64-field LL.u64-laws tableCount .low-is (d .tables) _ field) field)
 
 module _ {M : Type 1} (𝓤 : URA M) (H : Heap 𝓤) (A : Atoms 𝓤) (W : Given 𝓤 H A) where
-  pub six-makes : Makes 𝓤 H A Six (Is Six)
-  six-makes = array-makes 𝓤 H A W u64 (uint-makes 𝓤 H A W w64) 6
+  pub addresses-make : Makes 𝓤 H A Addresses (Is Addresses)
+  addresses-make = array-makes 𝓤 H A W u64 (uint-makes 𝓤 H A W w64) tableCount
 
-  pub six-lawful : Lawful 𝓤 H A Six
-  six-lawful = array-lawful 𝓤 H A W u64 (uint-lawful 𝓤 H A W w64) 6
+  pub addresses-lawful : Lawful 𝓤 H A Addresses
+  addresses-lawful = array-lawful 𝓤 H A W u64 (uint-lawful 𝓤 H A W w64) tableCount
 
   module _ (κ : Lft) where
     abbrev D : Declared
@@ -82,11 +83,11 @@ module _ {M : Type 1} (𝓤 : URA M) (H : Heap 𝓤) (A : Atoms 𝓤) (W : Given
     L = T′.the-laws (namedLft 1 0 tt (κ, tt))
 
     -- the slice's part makes the walker's
-    pub shuts : (s : RefT (List ℕ)) (ts : List ℕ) → Is Six ts (sixVal ts ∷ []) → ent 𝓤 (sem 𝓤 H A (Words κ .own s (wordsVal s ∷ []))) (sem 𝓤 H A (B (κ, tt) .own (held s ts) (T′.lowered (held s ts) ∷ [])))
+    pub shuts : (s : RefT (List ℕ)) (ts : List ℕ) → Is Addresses ts (addressesVal ts ∷ []) → ent 𝓤 (sem 𝓤 H A (Words κ .own s (wordsVal s ∷ []))) (sem 𝓤 H A (B (κ, tt) .own (held s ts) (T′.lowered (held s ts) ∷ [])))
     shuts s ts p =
-        qed W (‵ (Words κ .own s (wordsVal s ∷ [])) ∷ []) ∵ nothing ! $ owned ! Six (Is Six) six-makes (map (λ (n : ℕ). n) ts) _ (as-field ts p) $ fjoin ! $ move ! (1 ∷ 0 ∷ []) $ fjoin ! $
+        qed W (‵ (Words κ .own s (wordsVal s ∷ [])) ∷ []) ∵ nothing ! $ owned ! Addresses (Is Addresses) addresses-make (map (λ (n : ℕ). n) ts) _ (as-field ts p) $ fjoin ! $ move ! (1 ∷ 0 ∷ []) $ fjoin ! $
         feqI ! (List Val) (T′.lowered (held s ts) ∷ []) (T′.lowered (held s ts) ∷ []) refl $ fjoin ! $
-        fpack ! (Valss (fields D)) (within (shape D) (D .to (held s ts)) (T′.lowered (held s ts) ∷ [])) (wordsVal s ∷ [], (sixVal ts ∷ [], tt)) $ done !
+        fpack ! (Valss (fields D)) (within (shape D) (D .to (held s ts)) (T′.lowered (held s ts) ∷ [])) (wordsVal s ∷ [], (addressesVal ts ∷ [], tt)) $ done !
 
     -- and is had back of it
     pub opens : (d : Walker) (u : Val) → ent 𝓤 (sem 𝓤 H A (B (κ, tt) .own d (u ∷ []))) (sem 𝓤 H A (Words κ .own (d .words) (wordsVal (d .words) ∷ [])))

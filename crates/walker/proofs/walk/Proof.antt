@@ -35,6 +35,7 @@ use denote.Triple.Spec.{Meets, tripleOf}
 use denote.Triple.Table.{entered, cited}
 use denote.Triple.Walked.{says, Stays, walkOf, Walks, ends-at, walked, walk-meets}
 use denote.Triple.Clauses.{ensured, lasts}
+use Rattle.layout.specs.Size.{tableCount}
 use Rattle.lending.proofs.Dropped.{dropped, dropped-go}
 use Rattle.reach.specs.Reach.{toldOf}
 use Rattle.reach.specs.declared.Walked.{Walked}
@@ -42,7 +43,7 @@ use Rattle.reach.proofs.Walked as S
 use Rattle.reach.proofs.Walked.Laws as S′
 use Rattle.walker.specs.Walker.{walkedFrom}
 use Rattle.walker.specs.declared.Walker.{Walker}
-use Rattle.walker.proofs.Held.{Words, Six, wordsVal, sixVal, B, six-lawful}
+use Rattle.walker.proofs.Held.{Words, Addresses, wordsVal, addressesVal, B, addresses-lawful}
 use Rattle.walker.proofs.Walker as T
 use Rattle.walker.proofs.Walker.Laws as T′
 use Rattle.walker.proofs.Walker.new as new
@@ -69,24 +70,24 @@ module _ {M : Type 1} (𝓤 : URA M) (H : Heap 𝓤) (A : Atoms 𝓤) (mem : Mem
   abbrev Method : Contract 𝓤
   Method = tripleOf 𝓤 H A method.signature (method.spec 𝓤 H A mem run)
 
-module _ {M : Type 1} (𝓤 : URA M) (H : Heap 𝓤) (A : Atoms 𝓤) (W : Given 𝓤 H A) (mem : Memory → SProp 𝓤) (run : Routine → Fun 𝓤) (κ : Lft) (q : Share) (s : RefT (List ℕ)) (ts : List ℕ) (x : ℕ) (p : Is (Words κ) s (wordsVal s ∷ [])) (p′ : Is Six ts (sixVal ts ∷ [])) (fits : x < 2 ^ 64) where
+module _ {M : Type 1} (𝓤 : URA M) (H : Heap 𝓤) (A : Atoms 𝓤) (W : Given 𝓤 H A) (mem : Memory → SProp 𝓤) (run : Routine → Fun 𝓤) (κ : Lft) (q : Share) (s : RefT (List ℕ)) (ts : List ℕ) (x : ℕ) (p : Is (Words κ) s (wordsVal s ∷ [])) (p′ : Is Addresses ts (addressesVal ts ∷ [])) (fits : x < 2 ^ 64) where
   -- the struct's type as a local of a body has it
   abbrev αᵉ : NamedLft
   αᵉ = record { mir = erased; lft = κ }
 
   abbrev at : List Val × (List Val × (List Val × Unit {0}))
-  at = (wordsVal s ∷ [], (sixVal ts ∷ [], (vint w64 x ∷ [], tt)))
+  at = (wordsVal s ∷ [], (addressesVal ts ∷ [], (vint w64 x ∷ [], tt)))
 
   abbrev Post : Val → SProp 𝓤
   Post = walkOf 𝓤 H A walk.ended stayed (walk.clauses 𝓤 H A mem run) .post (((κ, tt), (q, tt), tt, (s, (ts, (x, tt))), at), tt)
 
   -- the call of `new`: what it is passed, what it asks, and what is known of its result
   abbrev to-new : New 𝓤 H A mem run .Ghost
-  to-new = (((κ, tt), (q, tt), tt, (s, (ts, tt)), (wordsVal s ∷ [], (sixVal ts ∷ [], tt))), tt)
+  to-new = (((κ, tt), (q, tt), tt, (s, (ts, tt)), (wordsVal s ∷ [], (addressesVal ts ∷ [], tt))), tt)
 
   goes-new : ent 𝓤 (onEntry 𝓤 H A walk.signature (κ, tt) (q, tt) (s, (ts, (x, tt))) at) (New 𝓤 H A mem run .pre to-new)
   goes-new =
-      qed W ((‵ (flft κ q) ⊛ ‵ ftrue) ∷ ‵ (owns (Words κ ∷ Six ∷ u64 ∷ []) (s, (ts, (x, tt))) at) ∷ []) ∵
+      qed W ((‵ (flft κ q) ⊛ ‵ ftrue) ∷ ‵ (owns (Words κ ∷ Addresses ∷ u64 ∷ []) (s, (ts, (x, tt))) at) ∷ []) ∵
       move ! (1 ∷ []) $ fsplit ! $ move ! (1 ∷ []) $ fsplit ! $ move ! (1 ∷ []) $ drop ! $ nothing ! $ move ! (1 ∷ 0 ∷ []) $ fjoin ! $ move ! (1 ∷ 0 ∷ []) $ fjoin ! $ move ! (1 ∷ 0 ∷ []) $ join ! $ frame ! $ done !
 
   abbrev Made : Walker → Type 0
@@ -117,11 +118,11 @@ module _ {M : Type 1} (𝓤 : URA M) (H : Heap 𝓤) (A : Atoms 𝓤) (W : Given
       says ! (told ∙ (λ i. walkedFrom (now (made .0 i)) (made .1 i) x)) $ move ! (1 ∷ []) $ frame ! $ nothing ! $ nothing ! $ nothing ! $ fjoin3 ! $ nothing ! $ fjoin ! $ frame ! $ done !
 
   module _ (C : Calls 𝓤 H) (Λ : Loops 𝓤 H) (fm : FmC 𝓤 H (W .laws) C) (known-new : Triple 𝓤 (C #walker·new) (New 𝓤 H A mem run)) (known-method : Triple 𝓤 (C #walker·method) (Method 𝓤 H A mem run)) where
-    steps : ent 𝓤 (onEntry 𝓤 H A walk.signature (κ, tt) (q, tt) (s, (ts, (x, tt))) at) (WpFn 𝓤 H C Λ code.function (wordsVal s ∷ sixVal ts ∷ vint w64 x ∷ []) Post)
+    steps : ent 𝓤 (onEntry 𝓤 H A walk.signature (κ, tt) (q, tt) (s, (ts, (x, tt))) at) (WpFn 𝓤 H C Λ code.function (wordsVal s ∷ addressesVal ts ∷ vint w64 x ∷ []) Post)
     steps =
-        qed W (raw (onEntry 𝓤 H A walk.signature (κ, tt) (q, tt) (s, (ts, (x, tt))) at) ∷ []) ∵ enter ! C Λ code.function (wordsVal s ∷ sixVal ts ∷ vint w64 x ∷ []) _ $
+        qed W (raw (onEntry 𝓤 H A walk.signature (κ, tt) (q, tt) (s, (ts, (x, tt))) at) ∷ []) ∵ enter ! C Λ code.function (wordsVal s ∷ addressesVal ts ∷ vint w64 x ∷ []) _ $
         alloc1 ! (λ l₀. alloc1 ! (λ l₁. alloc1 ! (λ l₂. alloc1 ! (λ l₃. alloc1 ! (λ l₄. alloc0 ! $ params1 ! $
-        pass1 ! (init ! 6 refl (shr-slice-lawful 𝓤 H A W (named 0) κ u64 .typed s _ p .0)) $ pass1 ! (init ! 4 refl (six-lawful 𝓤 H A W .typed ts _ p′ .0)) $ pass1 ! (init ! 2 refl (tt, record { fits = fits })) $ pass0 ! $
+        pass1 ! (init ! 6 refl (shr-slice-lawful 𝓤 H A W (named 0) κ u64 .typed s _ p .0)) $ pass1 ! (init ! 4 refl (addresses-lawful 𝓤 H A W .typed ts _ p′ .0)) $ pass1 ! (init ! 2 refl (tt, record { fits = fits })) $ pass0 ! $
         -- [room for _4; …; _3; …; _2; …; _1; …; room for _0; …; what is had at entry]
         move ! (10 ∷ []) $ use1 W (raw (New 𝓤 H A mem run .pre to-new)) goes-new $
         calls-at ! fm (New 𝓤 H A mem run) known-new to-new (and-then ! (load ! (from ! (stop !)) (look ! 7 refl)) (and-then ! (load ! (from ! (stop !)) (look ! 5 refl)) (no-more !))) (λ u.
@@ -143,7 +144,7 @@ module _ {M : Type 1} (𝓤 : URA M) (H : Heap 𝓤) (A : Atoms 𝓤) (W : Given
 module _ {M : Type 1} (𝓤 : URA M) (H : Heap 𝓤) (A : Atoms 𝓤) (W : Given 𝓤 H A) (mem : Memory → SProp 𝓤) (run : Routine → Fun 𝓤) where
   walk-walks : (C : Calls 𝓤 H) (Λ : Loops 𝓤 H) → FmC 𝓤 H (W .laws) C → Triple 𝓤 (C #walker·new) (New 𝓤 H A mem run) → Triple 𝓤 (C #walker·method) (Method 𝓤 H A mem run)
       → Walks 𝓤 H A walk.ended stayed (WpFn 𝓤 H C Λ code.function) (walk.clauses 𝓤 H A mem run)
-  walk-walks C Λ fm known-new known-method = walked 𝓤 H A walk.ended stayed (walk.clauses 𝓤 H A mem run) (WpFn 𝓤 H C Λ code.function) (λ κs. (slice-vals, (array-vals (uint-vals w64), (uint-vals w64, tt)))) (λ κs. (shr-slice-tells (named 0) (κs .0) u64, (array-tells u64 (uint-vals w64) (uint-tells w64) 6, (uint-tells w64, tt))))
+  walk-walks C Λ fm known-new known-method = walked 𝓤 H A walk.ended stayed (walk.clauses 𝓤 H A mem run) (WpFn 𝓤 H C Λ code.function) (λ κs. (slice-vals, (array-vals (uint-vals w64), (uint-vals w64, tt)))) (λ κs. (shr-slice-tells (named 0) (κs .0) u64, (array-tells u64 (uint-vals w64) (uint-tells w64) tableCount, (uint-tells w64, tt))))
       (λ κs qs bounds a g are. via 𝓤 _ (fst∗ 𝓤 _ (emp 𝓤)) (steps 𝓤 H A W mem run (κs .0) (qs .0) (a .0) (a .1 .0) (a .1 .1 .0) (are .0) (are .1 .0) (are .1 .1 .0 .1) C Λ fm known-new known-method))
 
 walk-meets′ : {M : Type 1} (𝓤 : URA M) (H : Heap 𝓤) (A : Atoms 𝓤) (W : Given 𝓤 H A) (mem : Memory → SProp 𝓤) (run : Routine → Fun 𝓤) (𝓣 : Tables 𝓤 H)

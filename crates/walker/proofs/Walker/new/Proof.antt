@@ -33,9 +33,10 @@ use denote.Triple.Entry.{onEntry}
 use denote.Triple.Spec.{Meets, tripleOf}
 use denote.Triple.Table.{entered}
 use denote.Triple.Walked.{says, Stays, walkOf, Walks, ends-at, walked, walk-meets}
+use Rattle.layout.specs.Size.{tableCount}
 use Rattle.lending.proofs.Dropped.{dropped, dropped-go}
 use Rattle.walker.specs.declared.Walker.{Walker}
-use Rattle.walker.proofs.Held.{Words, Six, wordsVal, sixVal, held, is-held, six-lawful, shuts}
+use Rattle.walker.proofs.Held.{Words, Addresses, wordsVal, addressesVal, held, is-held, addresses-lawful, shuts}
 use Rattle.walker.proofs.Walker as T
 use Rattle.walker.proofs.Walker.Laws as T′
 use Rattle.walker.proofs.Walker.new.Key.{name as #walker·new}
@@ -46,7 +47,7 @@ use Rattle.walker.proofs.Walker.new.Code as code
 abbrev stayed : Stays (new.ended .signature .params) (new.ended .kept)
 stayed = dropped (new.ended .signature .params) (new.ended .kept)
 
-module _ {M : Type 1} (𝓤 : URA M) (H : Heap 𝓤) (A : Atoms 𝓤) (W : Given 𝓤 H A) (mem : Memory → SProp 𝓤) (run : Routine → Fun 𝓤) (κ : Lft) (q : Share) (s : RefT (List ℕ)) (ts : List ℕ) (p : Is (Words κ) s (wordsVal s ∷ [])) (p′ : Is Six ts (sixVal ts ∷ [])) where
+module _ {M : Type 1} (𝓤 : URA M) (H : Heap 𝓤) (A : Atoms 𝓤) (W : Given 𝓤 H A) (mem : Memory → SProp 𝓤) (run : Routine → Fun 𝓤) (κ : Lft) (q : Share) (s : RefT (List ℕ)) (ts : List ℕ) (p : Is (Words κ) s (wordsVal s ∷ [])) (p′ : Is Addresses ts (addressesVal ts ∷ [])) where
   abbrev α : NamedLft
   α = namedLft 1 0 tt (κ, tt)
 
@@ -54,29 +55,29 @@ module _ {M : Type 1} (𝓤 : URA M) (H : Heap 𝓤) (A : Atoms 𝓤) (W : Given
   made = held s ts
 
   abbrev at : List Val × (List Val × Unit {0})
-  at = (wordsVal s ∷ [], (sixVal ts ∷ [], tt))
+  at = (wordsVal s ∷ [], (addressesVal ts ∷ [], tt))
 
   abbrev Post : Val → SProp 𝓤
   Post = walkOf 𝓤 H A new.ended stayed (new.clauses 𝓤 H A mem run) .post (((κ, tt), (q, tt), tt, (s, (ts, tt)), at), tt)
 
   exits : ent 𝓤 (onEntry 𝓤 H A new.signature (κ, tt) (q, tt) (s, (ts, tt)) at) (Post (T′.lowered made))
   exits =
-      qed W ((‵ (flft κ q) ⊛ ‵ ftrue) ∷ ‵ (owns (Words κ ∷ Six ∷ []) (s, (ts, tt)) at) ∷ []) ∵
+      qed W ((‵ (flft κ q) ⊛ ‵ ftrue) ∷ ‵ (owns (Words κ ∷ Addresses ∷ []) (s, (ts, tt)) at) ∷ []) ∵
       suffices ! _ (ends-at 𝓤 H A new.ended stayed (new.clauses 𝓤 H A mem run) W (((κ, tt), (q, tt), tt, (s, (ts, tt)), at), tt) (T′.lowered made) made (tt, (tt, tt)) (tt, (tt, tt))) $ says ! (refl, refl) $
       frame ! $ nothing ! $ nothing ! $ nothing ! $ fjoin3 ! $ frame ! $ fsplit ! $ move ! (1 ∷ []) $ drop ! $ by ! (shuts 𝓤 H A W κ s ts p′)
 
   module _ (C : Calls 𝓤 H) (Λ : Loops 𝓤 H) where
-    steps : ent 𝓤 (onEntry 𝓤 H A new.signature (κ, tt) (q, tt) (s, (ts, tt)) at) (WpFn 𝓤 H C Λ code.function (wordsVal s ∷ sixVal ts ∷ []) Post)
+    steps : ent 𝓤 (onEntry 𝓤 H A new.signature (κ, tt) (q, tt) (s, (ts, tt)) at) (WpFn 𝓤 H C Λ code.function (wordsVal s ∷ addressesVal ts ∷ []) Post)
     steps =
-        qed W (raw (onEntry 𝓤 H A new.signature (κ, tt) (q, tt) (s, (ts, tt)) at) ∷ []) ∵ enter ! C Λ code.function (wordsVal s ∷ sixVal ts ∷ []) _ $
-        alloc1 ! (λ l₀. alloc1 ! (λ l₁. alloc1 ! (λ l₂. alloc0 ! $ params1 ! $ pass1 ! (init ! 2 refl (shr-slice-lawful 𝓤 H A W (named 0) κ u64 .typed s _ p .0)) $ pass1 ! (init ! 0 refl (six-lawful 𝓤 H A W .typed ts _ p′ .0)) $ pass0 ! $
+        qed W (raw (onEntry 𝓤 H A new.signature (κ, tt) (q, tt) (s, (ts, tt)) at) ∷ []) ∵ enter ! C Λ code.function (wordsVal s ∷ addressesVal ts ∷ []) _ $
+        alloc1 ! (λ l₀. alloc1 ! (λ l₁. alloc1 ! (λ l₂. alloc0 ! $ params1 ! $ pass1 ! (init ! 2 refl (shr-slice-lawful 𝓤 H A W (named 0) κ u64 .typed s _ p .0)) $ pass1 ! (init ! 0 refl (addresses-lawful 𝓤 H A W .typed ts _ p′ .0)) $ pass0 ! $
         -- [_2; …; _1; …; room for _0; …; what is had at entry]
         assigns ! (agg ! (and-then ! (load ! (from ! (stop !)) (look ! 2 refl)) (and-then ! (load ! (from ! (stop !)) (look ! 0 refl)) (no-more !)))) (from ! (stop !)) (init ! 4 refl (LL.lawful (T.the-type α) (T′.the-laws α) 𝓤 H A W .typed made _ (is-held κ s ts p p′) .0)) $
         returns ! (look ! 4 refl) $ forget ! 0 refl $ forget ! 2 refl $ forget ! 4 refl $ move ! (4 ∷ 5 ∷ []) $ free1 ! $ move ! (2 ∷ 3 ∷ []) $ free1 ! $ free1 ! $ free0 ! $ by ! exits)))
 
 module _ {M : Type 1} (𝓤 : URA M) (H : Heap 𝓤) (A : Atoms 𝓤) (W : Given 𝓤 H A) (mem : Memory → SProp 𝓤) (run : Routine → Fun 𝓤) where
   new-walks : (C : Calls 𝓤 H) (Λ : Loops 𝓤 H) → Walks 𝓤 H A new.ended stayed (WpFn 𝓤 H C Λ code.function) (new.clauses 𝓤 H A mem run)
-  new-walks C Λ = walked 𝓤 H A new.ended stayed (new.clauses 𝓤 H A mem run) (WpFn 𝓤 H C Λ code.function) (λ κs. (slice-vals, (array-vals (uint-vals w64), tt))) (λ κs. (shr-slice-tells (named 0) (κs .0) u64, (array-tells u64 (uint-vals w64) (uint-tells w64) 6, tt)))
+  new-walks C Λ = walked 𝓤 H A new.ended stayed (new.clauses 𝓤 H A mem run) (WpFn 𝓤 H C Λ code.function) (λ κs. (slice-vals, (array-vals (uint-vals w64), tt))) (λ κs. (shr-slice-tells (named 0) (κs .0) u64, (array-tells u64 (uint-vals w64) (uint-tells w64) tableCount, tt)))
       (λ κs qs bounds a g are. via 𝓤 _ (fst∗ 𝓤 _ (emp 𝓤)) (steps 𝓤 H A W mem run (κs .0) (qs .0) (a .0) (a .1 .0) (are .0) (are .1 .0) C Λ))
 
 new-meets : {M : Type 1} (𝓤 : URA M) (H : Heap 𝓤) (A : Atoms 𝓤) → Given 𝓤 H A → (mem : Memory → SProp 𝓤) (run : Routine → Fun 𝓤) (𝓣 : Tables 𝓤 H)

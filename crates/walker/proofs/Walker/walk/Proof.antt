@@ -47,7 +47,7 @@ use Rattle.walk.proofs.walk.Symbol.{name as #walk·walk}
 use Rattle.walk.proofs.walk.Met as covered-thm
 use Rattle.walker.specs.Walker.{walkedFrom}
 use Rattle.walker.specs.declared.Walker.{Walker}
-use Rattle.walker.proofs.Held.{Words, Six, wordsVal, sixVal, B, is-six, six-makes, six-lawful, opens}
+use Rattle.walker.proofs.Held.{Words, Addresses, wordsVal, addressesVal, B, are-addresses, addresses-make, addresses-lawful, opens}
 use Rattle.walker.proofs.Walker as T
 use Rattle.walker.proofs.Walker.Laws as T′
 use Rattle.walker.proofs.Walker.walk.Key.{name as #walker·walk}
@@ -72,7 +72,7 @@ module _ {M : Type 1} (𝓤 : URA M) (H : Heap 𝓤) (A : Atoms 𝓤) (W : Given
 
   -- what the callee is passed
   abbrev to : Covered 𝓤 H A mem run .Ghost
-  to = (((κ, tt), (q, tt), tt, (d .words, (d .tables, (x, tt))), (wordsVal (d .words) ∷ [], (sixVal (d .tables) ∷ [], (vint w64 x ∷ [], tt)))), tt)
+  to = (((κ, tt), (q, tt), tt, (d .words, (d .tables, (x, tt))), (wordsVal (d .words) ∷ [], (addressesVal (d .tables) ∷ [], (vint w64 x ∷ [], tt)))), tt)
 
   -- what the struct owns gives what the callee asks
   apart : ent 𝓤 (onEntry 𝓤 H A walk.signature (κ, tt) (q, tt) (d, (x, tt)) at) (Covered 𝓤 H A mem run .pre to)
@@ -80,7 +80,7 @@ module _ {M : Type 1} (𝓤 : URA M) (H : Heap 𝓤) (A : Atoms 𝓤) (W : Given
       qed W ((‵ (flft κ q) ⊛ ‵ ftrue) ∷ ‵ (owns (B (κ, tt) ∷ u64 ∷ []) (d, (x, tt)) at) ∷ []) ∵
       move ! (1 ∷ []) $ fsplit ! $ use1 W (‵ (Words κ .own (d .words) (wordsVal (d .words) ∷ []))) (opens 𝓤 H A W κ d (T′.lowered d)) $ move ! (1 ∷ 0 ∷ []) $
       -- [what the number owns; what the slice owns; the token]
-      owned ! Six (Is Six) (six-makes 𝓤 H A W) (d .tables) _ (is-six κ d _ p) $ fjoin ! $ move ! (1 ∷ 0 ∷ []) $ fjoin ! $ move ! (1 ∷ 0 ∷ []) $ join ! $ frame ! $ done !
+      owned ! Addresses (Is Addresses) (addresses-make 𝓤 H A W) (d .tables) _ (are-addresses κ d _ p) $ fjoin ! $ move ! (1 ∷ 0 ∷ []) $ fjoin ! $ move ! (1 ∷ 0 ∷ []) $ join ! $ frame ! $ done !
 
   -- the clause that the callee's result meets
   abbrev Told : Walked → Type 0
@@ -102,7 +102,7 @@ module _ {M : Type 1} (𝓤 : URA M) (H : Heap 𝓤) (A : Atoms 𝓤) (W : Given
         alloc1 ! (λ l₀. alloc1 ! (λ l₁. alloc1 ! (λ l₂. alloc1 ! (λ l₃. alloc1 ! (λ l₄. alloc0 ! $ params1 ! $ pass1 ! (init ! 6 refl wt) $ pass1 ! (init ! 4 refl (tt, record { fits = fits })) $ pass0 ! $
         -- [room for _4; …; room for _3; …; _2; …; _1; …; room for _0; …; what is had at entry]
         assigns ! (of-opd ! (load ! (from ! (fld ! refl (stop !))) (look-in ! 6 (sub ! 0 refl (whole !))))) (from ! (stop !)) (init ! 2 refl (tt, wt .1 .0)) $
-        assigns ! (of-opd ! (load ! (from ! (fld ! refl (stop !))) (look-in ! 6 (sub ! 1 refl (whole !))))) (from ! (stop !)) (init ! 0 refl (six-lawful 𝓤 H A W .typed (d .tables) _ (is-six κ d _ p) .0)) $
+        assigns ! (of-opd ! (load ! (from ! (fld ! refl (stop !))) (look-in ! 6 (sub ! 1 refl (whole !))))) (from ! (stop !)) (init ! 0 refl (addresses-lawful 𝓤 H A W .typed (d .tables) _ (are-addresses κ d _ p) .0)) $
         move ! (10 ∷ []) $ use1 W (raw (Covered 𝓤 H A mem run .pre to)) apart $
         calls-at ! fm (Covered 𝓤 H A mem run) known to (and-then ! (load ! (from ! (stop !)) (look ! 3 refl)) (and-then ! (load ! (from ! (stop !)) (look ! 1 refl)) (and-then ! (load ! (from ! (stop !)) (look ! 5 refl)) (no-more !)))) (λ u.
         use1 W (later (some (λ (r : Walked). ((‵ (flft κ q) ⊛ ‵ ftrue) ⊛ ‵ (S.the-row .own r (u ∷ []))) ⊛ raw (ensured 𝓤 H A covered.ended (covered.clauses 𝓤 H A mem run) (κ, tt) (d .words, (d .tables, (x, tt))) tt r)))) (id⊢ 𝓤 _) $ await ! tt $ pick ! (λ r.
