@@ -21,11 +21,10 @@ use Rattle.reach.specs.Reach.{reachValues}
 use Rattle.refusal.specs.Outcome.{outcomeWords}
 use Rattle.refusal.specs.Table.{Outcome, first}
 use Rattle.refusal.specs.Told.{after, toldWords}
-use Rattle.rows.specs.Rows.{row1, refusals, arenaGuardRows}
+use Rattle.rows.specs.Rows.{refusals, arenaGuardRows}
 use Rattle.update.specs.Step.{stepRows, leftBy}
 use Rattle.verify_rows.specs.Verifying.{verifyRows}
-use Rattle.walk.specs.Descent.{wordsOf}
-use Rattle.walk.specs.Walk.{walkOf}
+use Rattle.walk.specs.Walk.{walkedFrom}
 
 -- the edges that are lent as rows
 abbrev pub edgesOf : List (List ℕ) → List Edge
@@ -59,7 +58,7 @@ pub record StepAnswer (numbers base sup : List ℕ) (n : ℕ) (old answer new : 
 
 -- by the arena, the six table addresses and the address
 abbrev pub walkAnswer : List ℕ → List ℕ → ℕ → List ℕ
-walkAnswer arena tables x = toldWords reachValues (after (first (row1 arena)) (walkOf tables (λ left. wordsOf arena) x))
+walkAnswer arena tables x = toldWords reachValues (walkedFrom arena tables x)
 
 abbrev pub verifyAnswer : List ℕ → List ℕ → List ℕ → List ℕ → List ℕ
 verifyAnswer numbers arena base sup = outcomeWords (first (verifyRows arena base sup (layoutOf numbers)))

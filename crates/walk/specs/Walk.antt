@@ -10,7 +10,10 @@ use Rattle.fields.specs.Named.{pick}
 use Rattle.layout.specs.Size.{page, block, inputLimit}
 use Rattle.reach.specs.declared.Reached.{Reached}
 use Rattle.reach.specs.declared.Reached.the-variants.{At, Nothing}
-use Rattle.walk.specs.Descent.{Words, descend}
+use Rattle.refusal.specs.Table.{first}
+use Rattle.refusal.specs.Told.{Told, after}
+use Rattle.rows.specs.Rows.{row1}
+use Rattle.walk.specs.Descent.{Words, wordsOf, descend}
 use Rattle.walk.specs.declared.Stop.{Stop}
 use Rattle.walk.specs.declared.Stop.the-variants.{Leaf, Stopped}
 
@@ -27,3 +30,7 @@ reading x (Stopped level) = Nothing
 -- it starts at the l1 address; an address of 2^39 or more reaches nothing
 unfoldable pub walkOf : List ℕ → (ℕ → Words) → ℕ → Reached
 walkOf tables ws x = pick (ltb x inputLimit) (reading x (descend tables ws 2 (getD tables 0 0) x)) Nothing
+
+-- a walk never refuses but by 1; each of its reads sees the arena as it is
+abbrev pub walkedFrom : List ℕ → List ℕ → ℕ → Told Reached
+walkedFrom arena tables x = after (first (row1 arena)) (walkOf tables (λ left. wordsOf arena) x)

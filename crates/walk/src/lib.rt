@@ -12,12 +12,9 @@ ghost use lib.ListN.{length};
 ghost use Rattle.decode.specs.Decoded.{outputOf};
 ghost use Rattle.layout.specs.Size.{entries, block, outputLimit, tableCount, arenaLength};
 ghost use Rattle.reach.specs.Reach.{toldOf};
-ghost use Rattle.refusal.specs.Table.{first};
-ghost use Rattle.refusal.specs.Told.{after};
-ghost use Rattle.rows.specs.Rows.{row1};
 ghost use Rattle.walk.specs.Descent.{index, wordsOf, fetch, descend, endsAt};
 ghost use Rattle.walk.specs.Packed.{packed, unpacked};
-ghost use Rattle.walk.specs.Walk.{joined, reading, walkOf};
+ghost use Rattle.walk.specs.Walk.{joined, reading, walkOf, walkedFrom};
 
 // Where a descent ends: at a leaf word, or at a level where no word leads on.
 pub enum Stop {
@@ -27,7 +24,7 @@ pub enum Stop {
 
 // Row 1 alone. An address of 2^39 or more would wrap into the same tables, and reaches nothing.
 pub fn walk(arena: &[u64], tables: [u64; Layout::TABLES], ipa: u64) -> Walked
-    ensures { λ r. ⌜ toldOf r ≡ after (first (row1 (now (arena .entry)))) (walkOf tables (λ left. wordsOf (now (arena .entry))) ipa) ⌝ }
+    ensures { λ r. ⌜ toldOf r ≡ walkedFrom (now (arena .entry)) tables ipa ⌝ }
 {
     let verdict = lent::arena_len(arena);
     match verdict {

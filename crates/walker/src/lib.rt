@@ -4,7 +4,7 @@ use layout::Layout;
 use reach::Walked;
 ghost use mathlib.Core.Path.{_≡_};
 ghost use Rattle.reach.specs.Reach.{toldOf};
-ghost use Rattle.walker.specs.Walker.{walkedFrom};
+ghost use Rattle.walk.specs.Walk.{walkedFrom};
 
 // The 3,072 words, and the addresses of the six tables in the arena's order.
 pub struct Walker<'a> {

@@ -41,7 +41,7 @@ use Rattle.reach.specs.Reach.{toldOf}
 use Rattle.reach.specs.declared.Walked.{Walked}
 use Rattle.reach.proofs.Walked as S
 use Rattle.reach.proofs.Walked.Laws as S′
-use Rattle.walker.specs.Walker.{walkedFrom}
+use Rattle.walk.specs.Walk.{walkedFrom}
 use Rattle.walker.specs.declared.Walker.{Walker}
 use Rattle.walker.proofs.Held.{Words, Addresses, wordsVal, addressesVal, B, addresses-lawful}
 use Rattle.walker.proofs.Walker as T

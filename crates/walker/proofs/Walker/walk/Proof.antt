@@ -45,7 +45,7 @@ use Rattle.walk.proofs.walk as covered
 use Rattle.walk.proofs.walk.Symbol as covered-def
 use Rattle.walk.proofs.walk.Symbol.{name as #walk·walk}
 use Rattle.walk.proofs.walk.Met as covered-thm
-use Rattle.walker.specs.Walker.{walkedFrom}
+use Rattle.walk.specs.Walk.{walkedFrom}
 use Rattle.walker.specs.declared.Walker.{Walker}
 use Rattle.walker.proofs.Held.{Words, Addresses, wordsVal, addressesVal, B, are-addresses, addresses-make, addresses-lawful, opens}
 use Rattle.walker.proofs.Walker as T
