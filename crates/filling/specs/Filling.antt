@@ -37,7 +37,10 @@ pub record Put : Type 0 where
 abbrev pub put : List ℕ → Outcome → Put
 put xs o = record { map = xs; outcome = o }
 
--- row 16: a child past a map
+-- row 15: a parent whose leaves have no span here; row 16: a child past a map
+abbrev pub row15 : ℕ → Row
+row15 parent = row 15 (parent ∷ [])
+
 abbrev pub row16 : ℕ → List ℕ → Row
 row16 child xs = row 16 (child ∷ length xs ∷ [])
 
@@ -55,7 +58,7 @@ inMap Super p f = filling (f .base) (p .map) (p .outcome)
 -- parent kind 2 is base, 3 is super, else 15
 abbrev pub putUnder : TableSpan → Filling → Edge → Filling
 putUnder (Leaves s) f e = inMap s (putIn (mapOf s f) e) f
-putUnder Unsupported f e = filling (f .base) (f .sup) (refused (row 15 (e .parent ∷ [])))
+putUnder Unsupported f e = filling (f .base) (f .sup) (refused (row15 (e .parent)))
 
 -- one edge: skipped, or put under its parent's span
 unfoldable pub placed : List (List ℕ) → ℕ → Filling → Edge → Filling
