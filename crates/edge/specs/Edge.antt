@@ -1,7 +1,7 @@
 -- Edges, by document 01 ("Edge and frame records", "Leaf maps").
 use Prim.Native.Nat.{ℕ}
 use mathlib.Core.Bool.{Bool, false, _&&_}
-use mathlib.Core.List.{List}
+use mathlib.Core.List.{List, map}
 use lib.Dec.{eqb}
 use lib.ListN.{getD}
 use Rattle.fields.specs.Named.{pick}
@@ -25,6 +25,10 @@ edgeOf x =
       leaf = nonzero (getD x 4 0);
       execute = nonzero (getD x 5 0);
     }
+
+-- edges that are lent as rows of their fields
+abbrev pub edgesOf : List (List ℕ) → List Edge
+edgesOf rows = map edgeOf rows
 
 -- writable with execute gives Rw
 abbrev pub permOf : Edge → Perm

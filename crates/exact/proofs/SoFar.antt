@@ -14,9 +14,10 @@ module _ (frames : List (List ℕ)) (dom : ℕ) (s : Span) (edges : List Edge) w
   Noted i xs =
       (m : ℕ) → m < entries → expected frames dom s edges m ≡ afterEdges frames dom s m (getD xs m 0) (drop i edges)
 
-  pub none-noted : Noted 0 (replicate entries 0)
-  none-noted m inside =
-      ap (λ k. afterEdges frames dom s m k edges) (sym (getD-replicate entries m 0 0 inside))
+  pub none-noted : (xs : List ℕ) → xs ≡ replicate entries 0 → Noted 0 xs
+  none-noted xs blank m inside =
+      ap (λ k. afterEdges frames dom s m k edges)
+      (sym (ap (λ ys. getD ys m 0) blank ∙ getD-replicate entries m 0 0 inside))
 
   pub one-noted :
       (i : ℕ) (xs ys : List ℕ) (d : Edge) → i < length edges → Noted i xs →

@@ -6,10 +6,9 @@ use p2m::TableSpan;
 use refusal::Refusal;
 use refusal::Verdict;
 ghost use Prim.Native.Nat.{ℕ, _≤_, _<_};
-ghost use mathlib.Core.List.{map};
 ghost use mathlib.Core.Path.{_≡_};
 ghost use lib.ListN.{length, getD, replicate};
-ghost use Rattle.edge.specs.Edge.{edgeOf};
+ghost use Rattle.edge.specs.Edge.{edgesOf};
 ghost use Rattle.exact.specs.Exact.{lands, afterEdge, expected, row25, comparedRows, exactRows};
 ghost use Rattle.layout.specs.Size.{entries};
 ghost use Rattle.refusal.specs.Outcome.{outcomeOf};
@@ -23,7 +22,7 @@ pub fn check_exact(
     edges: &[[u32; 6]],
     frames: &[[u32; 2]],
 ) -> Verdict
-    ensures { λ r. ⌜ outcomeOf r ≡ first (exactRows (now (frames .entry)) dom span (map edgeOf (now (edges .entry))) (now (leaves .entry))) ⌝ }
+    ensures { λ r. ⌜ outcomeOf r ≡ first (exactRows (now (frames .entry)) dom span (edgesOf (now (edges .entry))) (now (leaves .entry))) ⌝ }
 {
     compare(
         dom,
@@ -71,9 +70,9 @@ fn expected_entries(
     edges: &[[u32; 6]],
     frames: &[[u32; 2]],
 ) -> [u8; Layout::ENTRIES]
-    ensures { λ r. ⌜ ((m : ℕ) → m < entries → getD r m 0 ≡ expected (now (frames .entry)) dom span (map edgeOf (now (edges .entry))) m) ⌝ }
+    ensures { λ r. ⌜ ((m : ℕ) → m < entries → getD r m 0 ≡ expected (now (frames .entry)) dom span (edgesOf (now (edges .entry))) m) ⌝ }
 {
-    let mut wanted = [0u8; Layout::ENTRIES];
+    let mut wanted = unmapped();
     for i in 0..edges.len() {
         note(&mut wanted, Edge::of(edges[i]), dom, span, frames);
     }

@@ -1,9 +1,8 @@
 // Which frames a domain's page tables reach, and at what permission (hv-s2's leafmap.rs).
 use edge::Edge;
 use refusal::Verdict;
-ghost use mathlib.Core.List.{map};
 ghost use mathlib.Core.Path.{_≡_};
-ghost use Rattle.edge.specs.Edge.{edgeOf};
+ghost use Rattle.edge.specs.Edge.{edgesOf};
 ghost use Rattle.filling.specs.Filling.{filling, filled};
 ghost use Rattle.refusal.specs.Outcome.{outcomeOf};
 
@@ -15,7 +14,7 @@ pub fn leaf_map_from_edges(
     base: &mut [u8],
     sup: &mut [u8],
 ) -> Verdict
-    ensures { λ r. ⌜ filling (now (base .exit)) (now (sup .exit)) (outcomeOf r) ≡ filled (now (frames .entry)) dom (map edgeOf (now (edges .entry))) (now (base .entry)) (now (sup .entry)) ⌝ }
+    ensures { λ r. ⌜ filling (now (base .exit)) (now (sup .exit)) (outcomeOf r) ≡ filled (now (frames .entry)) dom (edgesOf (now (edges .entry))) (now (base .entry)) (now (sup .entry)) ⌝ }
 {
     let mut so_far = filling::start(base, sup);
     for i in 0..edges.len() {

@@ -4,7 +4,7 @@ use mathlib.Core.List.{List, [], _∷_, map}
 use mathlib.Core.Path.{_≡_}
 use lib.ListN.{replicate}
 use Rattle.authority.specs.Authority.{authorityRows}
-use Rattle.edge.specs.Edge.{edgeOf}
+use Rattle.edge.specs.Edge.{edgesOf}
 use Rattle.edge.specs.Grant.{grantOf}
 use Rattle.exact.specs.Exact.{exactRows}
 use Rattle.filling.specs.Filling.{Filling, filling, filled}
@@ -24,13 +24,13 @@ abbrev pub plain : ℕ → ℕ → List ℕ
 plain parent child = edge parent 0 child 0 1 0
 
 abbrev pub fill : List (List ℕ) → List ℕ → List ℕ → Filling
-fill edges base sup = filled frames 3 (map edgeOf edges) base sup
+fill edges base sup = filled frames 3 (edgesOf edges) base sup
 
 abbrev pub authorize : List (List ℕ) → List ℕ → Outcome
 authorize grants leaves = first (authorityRows frames (map grantOf grants) 3 leaves)
 
 abbrev pub exact : Span → List (List ℕ) → List ℕ → Outcome
-exact s edges leaves = first (exactRows frames 3 s (map edgeOf edges) leaves)
+exact s edges leaves = first (exactRows frames 3 s (edgesOf edges) leaves)
 
 -- four leaf edges: W, W+X, X, plain
 abbrev pub FourEdges : Type 0

@@ -5,7 +5,6 @@ use mathlib.Core.Path.{_≡_}
 use lib.Dec.{eqb}
 use Rattle.arena.specs.Over.{Over}
 use Rattle.authority.specs.Authority.{authorityRows}
-use Rattle.edge.specs.Edge.{edgeOf}
 use Rattle.edge.specs.declared.Edge.{Edge}
 use Rattle.edge.specs.Grant.{grantOf}
 use Rattle.encode.specs.Encoding.{left}
@@ -25,10 +24,6 @@ use Rattle.rows.specs.Rows.{refusals, arenaGuardRows}
 use Rattle.update.specs.Step.{stepRows, leftBy}
 use Rattle.verify_rows.specs.Verifying.{verifyRows}
 use Rattle.walk.specs.Walk.{walkedFrom}
-
--- the edges that are lent as rows
-abbrev pub edgesOf : List (List ℕ) → List Edge
-edgesOf = map edgeOf
 
 abbrev pub validateAnswer : List ℕ → List ℕ
 validateAnswer numbers = outcomeWords (first (refusals (layoutOf numbers)))

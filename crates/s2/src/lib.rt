@@ -8,8 +8,9 @@ ghost use Prim.Native.Nat.{_<_, _^_};
 ghost use mathlib.Core.List.{[], _∷_};
 ghost use mathlib.Core.Path.{_≡_};
 ghost use lib.ListN.{getD};
+ghost use Rattle.edge.specs.Edge.{edgesOf};
 ghost use Rattle.refusal.specs.Outcome.{outcomeOf, outcomeWords};
-ghost use Rattle.s2.specs.Answers.{edgesOf, validateAnswer, fillAnswer, EncodeAnswer, StepAnswer, walkAnswer, verifyAnswer, exposedAnswer, authorizedAnswer, spanNumbered, exactAnswer};
+ghost use Rattle.s2.specs.Answers.{validateAnswer, fillAnswer, EncodeAnswer, StepAnswer, walkAnswer, verifyAnswer, exposedAnswer, authorizedAnswer, spanNumbered, exactAnswer};
 
 // Rows 4 to 12.
 #[no_mangle]

@@ -1,10 +1,10 @@
 -- Scene S, with edges that fill its maps: a list of steps that demand 3 speaks of, and an address that is reached.
 use Prim.Native.Nat.{ℕ}
 use mathlib.Core.Bool.{true}
-use mathlib.Core.List.{List, [], _∷_, map}
+use mathlib.Core.List.{List, [], _∷_}
 use mathlib.Core.Path.{_≡_}
 use lib.ListN.{length, replicate}
-use Rattle.edge.specs.Edge.{edgeOf}
+use Rattle.edge.specs.Edge.{edgesOf}
 use Rattle.filling.specs.Filling.{filling, filled}
 use Rattle.layout.specs.Size.{arenaLength}
 use Rattle.leaves.specs.Examples.{edge}
@@ -25,7 +25,7 @@ use Rattle.updates.specs.Demand3.{Source, cutAfter}
 abbrev pub sourceS : Source
 sourceS =
     record {
-      edges = map edgeOf (edge 0 0 1 1 1 0 ∷ edge 1 0 2 0 1 1 ∷ []);
+      edges = edgesOf (edge 0 0 1 1 1 0 ∷ edge 1 0 2 0 1 1 ∷ []);
       frames = (3 ∷ 2 ∷ []) ∷ (3 ∷ 3 ∷ []) ∷ [];
       domain = 3;
       layout = S;

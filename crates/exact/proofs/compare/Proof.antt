@@ -55,6 +55,7 @@ same-entries-requires c κs =
     let told = c .before in
     let v = told .before .before in
     let short = read-length _ _ (sym (read v) ∙ ap outcomeOf (told .enum-told .given .1)) in
+    -- t4 is what is wanted, which is lent
     let whole : length (v .before .before .before .args .t4) ≡ entries = search needs in
     omega (arith, short, whole)
 

@@ -14,6 +14,7 @@ note-requires c κs = search needs
 
 returns : tie.Need-returns
 returns c =
+    -- t1 is what is wanted, which is lent
     let whole : length (c .before .before .before .args .t1) ≡ entries = search needs in
     λ m inside. c .before .note .ensures m (rw whole inside)
 

@@ -3,7 +3,7 @@
 -- that they meet their contracts. Numbers, spans and edges own facts alone, had anew where a call asks for them (`owned`); the slices
 -- are `&`, had twice where a call takes one. At exit nothing is had of a parameter.
 -- Assumes nothing.
-use mathlib.Core.Path.{_≡_, refl, sym, _∙_, subst}
+use mathlib.Core.Path.{_≡_, refl, sym, _∙_}
 use Prim.Native.Nat.{ℕ, _+_, _-_, _*_, _≤_, _<_, _^_, zero-le}
 use native.Mathlib.Nat.{lt-of-le-of-lt}
 use native.Mathlib.Numerals.{add-one-le, add-one-dec}
@@ -356,9 +356,6 @@ module _
           looping : (s : State) → Sq W (At s) (runs C Λ En text.t-4 (atRet En Post))
           looping s = first ! $ blocks ! $ loops ! 𝓣 Nearer nearer-wf At turns s
 
-      begun : (r : List ℕ) → r ≡ replicate entries 0 → Noted (now frames) dom span es 0 r
-      begun r blank = subst (Noted (now frames) dom span es 0) (sym blank) (none-noted (now frames) dom span es)
-
       -- the MIR, up to the loop
       walk : (𝓣 : Tables 𝓤 H) → FmC 𝓤 H (W .laws) (𝓣 .C) → Triple 𝓤 (𝓣 .C #unmapped) (Unmapped 𝓤 H A mem run) → Triple 𝓤 (𝓣 .C #noted) (Note 𝓤 H A mem run) → Triple 𝓤 (𝓣 .C #compare) (Compare 𝓤 H A mem run)
           → Is (ShrSlice (named 0) κ₀ u8) leaves (lv ∷ []) → Is (ShrSlice (named 1) κ₁ E.the-row) edges (ev ∷ []) → Is (ShrSlice (named 2) κ₂ Frame) frames (fv ∷ [])
@@ -385,7 +382,7 @@ module _
           move ! (30 ∷ []) $ fsplit ! $ drop ! $ fsplit ! $ move ! (1 ∷ []) $ fsplit ! $ drop ! $ fsplit ! $ move ! (1 ∷ []) $ fsplit ! $
           -- [what frames owns; true; what edges and leaves own; κ₂'s token; true; κ₁'s, κ₀'s; _12; …]
           keep ! (20 ∷ 18 ∷ 14 ∷ 12 ∷ 10 ∷ 8 ∷ 16 ∷ 30 ∷ 28 ∷ 26 ∷ 24 ∷ 22 ∷ 32 ∷ 7 ∷ 6 ∷ 4 ∷ 3 ∷ 2 ∷ 0 ∷ 33 ∷ 31 ∷ 29 ∷ 27 ∷ 25 ∷ 23 ∷ 21 ∷ 19 ∷ 17 ∷ 15 ∷ 13 ∷ 11 ∷ 9 ∷ []) $
-          looping 𝓣 fm known-noted known-compare (is-edges .0 .1) l₀ l₁ l₂ l₃ l₄ l₅ l₆ l₇ l₈ l₉ l₁₀ l₁₁ l₁₂ (0, (r, (u, (zero-le, (is-r, begun r blank))))))))))))))))))))))
+          looping 𝓣 fm known-noted known-compare (is-edges .0 .1) l₀ l₁ l₂ l₃ l₄ l₅ l₆ l₇ l₈ l₉ l₁₀ l₁₁ l₁₂ (0, (r, (u, (zero-le, (is-r, none-noted (now frames) dom span es r blank))))))))))))))))))))))
         where
           asks-unmapped : ent 𝓤 (emp 𝓤) (Unmapped 𝓤 H A mem run .pre ((tt, tt, tt, tt, tt), tt))
           asks-unmapped = qed W [] ∵ nothing ! $ nothing ! $ join ! $ frame ! $ done !

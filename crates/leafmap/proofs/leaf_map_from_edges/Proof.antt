@@ -1,11 +1,11 @@
 -- `leaf_map_from_edges` meets its contract: the edges from i on are placed into the maps as they are.
 use Prim.Native.Nat.{_≤_, _<_, _-_}
-use mathlib.Core.List.{[], map}
+use mathlib.Core.List.{[]}
 use mathlib.Core.Path.{_≡_, refl, _∙_, sym, ap}
 use lib.ListN.{length, length-map, List·getD-map}
 use borrow.Author.Needs.{needs}
 use denote.Ref.{now}
-use Rattle.edge.specs.Edge.{edgeOf}
+use Rattle.edge.specs.Edge.{edgeOf, edgesOf}
 use Rattle.filling.proofs.SoFar.{PlacedTo, one-placed, all-placed}
 use Rattle.filling.specs.Filling.{placedNext}
 use Rattle.filling.specs.Progress.{reached}
@@ -14,7 +14,7 @@ use Rattle.leafmap.proofs.leaf_map_from_edges.Tie as tie
 
 abbrev Inv-loop : tie.InvT-loop
 Inv-loop edges frames dom base₀ sup₀ so-far₀ i₀ i-end base sup so-far i =
-    PlacedTo frames dom (map edgeOf edges) (reached base₀ sup₀ so-far₀) i (reached base sup so-far)
+    PlacedTo frames dom (edgesOf edges) (reached base₀ sup₀ so-far₀) i (reached base sup so-far)
     × (length base ≡ length base₀)
     × (length sup ≡ length sup₀)
 
@@ -54,10 +54,10 @@ loop-again c =
     let a = h .before .before .before .before .before .before .before .before .before .before .args in
     let rows = now (a .edges) in
     let i = h .loop .i in
-    let within : i < length (map edgeOf rows) = rw (length-map rows edgeOf) (in-loop .loop-test .taken) in
+    let within : i < length (edgesOf rows) = rw (length-map rows edgeOf) (in-loop .loop-test .taken) in
     let read = o .of .ensures ∙ sym (List·getD-map edgeOf rows i []) in
     let so-far = reached (h .loop .base) (h .loop .sup) (h .loop .so-far) in (
-      one-placed (now (a .frames)) (a .dom) (map edgeOf rows) _ i so-far _ (edgeOf []) within (h .loop .inv .0)
+      one-placed (now (a .frames)) (a .dom) (edgesOf rows) _ i so-far _ (edgeOf []) within (h .loop .inv .0)
           (v .place-next .ensures ∙ ap (placedNext (now (a .frames)) (a .dom) so-far) read),
       v .place-next .kept .1 .1 .1 .1 .0 ∙ h .loop .inv .1,
       v .place-next .kept .1 .1 .1 .1 .1 .0 ∙ h .loop .inv .2,
@@ -83,8 +83,8 @@ returns c =
     let begun = h .before .before .before .before .before in
     let a = begun .before .before .before .before .before .args in
     let rows = now (a .edges) in
-    let past : length (map edgeOf rows) ≤ h .loop .i = rw (length-map rows edgeOf) (left .loop-test .left) in
-    all-placed (now (a .frames)) (a .dom) (map edgeOf rows) _ (now (a .base)) (now (a .sup)) (begun .start .ensures) (h .loop .i) _
+    let past : length (edgesOf rows) ≤ h .loop .i = rw (length-map rows edgeOf) (left .loop-test .left) in
+    all-placed (now (a .frames)) (a .dom) (edgesOf rows) _ (now (a .base)) (now (a .sup)) (begun .start .ensures) (h .loop .i) _
     _ past (h .loop .inv .0) (c .finish .ensures)
 
 pub leaf-map-from-edges-spec : {M : Type 1} → statement M

@@ -1,10 +1,10 @@
 -- `s2_exact` meets its contract: each callee equals its definition.
 use Prim.Native.Nat.{ℕ}
-use mathlib.Core.List.{List, map}
+use mathlib.Core.List.{List}
 use mathlib.Core.Path.{ap, _∙_}
 use borrow.Author.Needs.{needs}
 use denote.Ref.{now}
-use Rattle.edge.specs.Edge.{edgeOf}
+use Rattle.edge.specs.Edge.{edgesOf}
 use Rattle.exact.specs.Exact.{exactRows}
 use Rattle.p2m.specs.declared.Span.{Span}
 use Rattle.refusal.specs.Outcome.{outcomeWords}
@@ -16,7 +16,7 @@ use Rattle.s2.proofs.s2_exact.Tie as tie
 abbrev of-span : tie.Start → Span → List ℕ
 of-span s span =
     let a = s .args in
-    outcomeWords (first (exactRows (now (a .frames)) (a .dom) span (map edgeOf (now (a .edges))) (now (a .map))))
+    outcomeWords (first (exactRows (now (a .frames)) (a .dom) span (edgesOf (now (a .edges))) (now (a .map))))
 
 span-numbered-requires : tie.Need-span-numbered-requires
 span-numbered-requires c κs = search needs
