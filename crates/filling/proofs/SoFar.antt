@@ -5,7 +5,6 @@ use mathlib.Core.Path.{_≡_, sym, ap, _∙_}
 use lib.ListN.{length, getD, drop}
 use Rattle.edge.specs.declared.Edge.{Edge}
 use Rattle.filling.specs.Filling.{Filling, placedNext, placedAll, onward, conflicts, started, filled}
-use Rattle.filling.proofs.Filled.{in-steps}
 use Rattle.filling.proofs.Placed.{place-at, place-end}
 
 -- f₀ is the filling before any edge
@@ -25,8 +24,8 @@ module _ (frames : List (List ℕ)) (dom : ℕ) (edges : List Edge) (f₀ : Fill
   pub all-placed :
       (base sup : List ℕ) → f₀ ≡ started base sup →
       (i : ℕ) (f g : Filling) → length edges ≤ i → PlacedTo i f → g ≡ onward conflicts f → g ≡ filled frames dom edges base sup
+  unfolding filled
   all-placed base sup begun i f g past placed e =
       e
       ∙ ap (onward conflicts) (sym (placed ∙ place-end frames dom edges i f past))
       ∙ ap (λ h. onward conflicts (placedAll frames dom edges h)) begun
-      ∙ in-steps frames dom edges base sup

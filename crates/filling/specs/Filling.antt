@@ -96,11 +96,10 @@ unfoldable pub started : List ℕ → List ℕ → Filling
 started base sup =
     onward (λ f. cleared (length base) (length sup)) (filling base sup (first (lengthRows base sup)))
 
--- from cleared maps of these lengths
+-- of lent maps: started, the edges in order, and 17 last
+unfoldable pub filled : List (List ℕ) → ℕ → List Edge → List ℕ → List ℕ → Filling
+filled frames dom edges base sup = onward conflicts (placedAll frames dom edges (started base sup))
+
+-- the same from cleared maps of these lengths
 unfoldable pub filledInto : List (List ℕ) → ℕ → List Edge → ℕ → ℕ → Filling
 filledInto frames dom edges n m = onward conflicts (placedAll frames dom edges (cleared n m))
-
--- of lent maps: row 2 comes first and changes nothing
-unfoldable pub filled : List (List ℕ) → ℕ → List Edge → List ℕ → List ℕ → Filling
-filled frames dom edges base sup =
-    onward (λ f. filledInto frames dom edges (length base) (length sup)) (filling base sup (first (lengthRows base sup)))

@@ -10,7 +10,7 @@ use Rattle.edge.specs.Edge.{entryOf, counts}
 use Rattle.edge.specs.declared.Edge.{Edge}
 use Rattle.exact.specs.Exact.{lands, afterEdge, afterEdges, expected, row25, comparedRows, exactRows}
 use Rattle.fields.specs.Named.{pick}
-use Rattle.filling.proofs.Onward.{on, off}
+use Rattle.filling.proofs.Filled.{fitting, too-long}
 use Rattle.filling.specs.Filling.{Filling, filling, mapOf, putIn, inMap, putUnder, placed, onward, unless, placedAll, cleared, filledInto, filled}
 use Rattle.layout.specs.Size.{entries as mapEntries}
 use Rattle.lent.proofs.Codes.{no-row3}
@@ -115,25 +115,19 @@ passes frames dom s edges xs short same =
 
 module _ (frames : List (List ℕ)) (dom : ℕ) (edges : List Edge) (base sup : List ℕ) where
   pub fit : filled frames dom edges base sup .outcome ≡ accepted → first (lengthRows base sup) ≡ accepted
-  unfolding filled
   fit a = go (first (lengthRows base sup)) refl
     where
-      f : Filling
-      f = filling base sup (first (lengthRows base sup))
-
       go : (o : Outcome) → first (lengthRows base sup) ≡ o → first (lengthRows base sup) ≡ accepted
       go accepted e = e
       go (refused r) e =
           absurd
           (refused≢accepted r
-          (sym (ap (λ (g : Filling). g .outcome) (off (λ g. filledInto frames dom edges (length base) (length sup)) f r e) ∙ e)
-          ∙ a))
+          (sym (ap (λ (g : Filling). g .outcome) (too-long frames dom edges base sup r e) ∙ e) ∙ a))
 
   pub into :
       filled frames dom edges base sup .outcome ≡ accepted →
       filled frames dom edges base sup ≡ filledInto frames dom edges (length base) (length sup)
-  unfolding filled
-  into a = on _ _ (fit a)
+  into a = fitting frames dom edges base sup (fit a)
 
   pub short : (s : Span) → first (lengthRows base sup) ≡ accepted → length (mapOf s (filling base sup accepted)) ≤ mapEntries
   unfolding lengthRows flatMap row2

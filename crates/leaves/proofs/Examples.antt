@@ -5,13 +5,13 @@ use Rattle.authority.specs.Authority.{granted, ownerRows, reachRows, authorityR
 use Rattle.edge.specs.Edge.{owns, counts}
 use Rattle.edge.specs.Grant.{covers}
 use Rattle.exact.specs.Exact.{lands, afterEdge, afterEdges, row25, comparedRows}
-use Rattle.filling.specs.Filling.{putIn, placed, onward, placedAll, row17, conflicts, filledInto, filled}
+use Rattle.filling.specs.Filling.{putIn, placed, onward, placedAll, row17, conflicts, started, filled}
 use Rattle.refusal.specs.Table.{first, eachFrom}
 use Rattle.rows.specs.Rows.{row2, row3, lengthRows, readRows}
 use Rattle.leaves.specs.Examples.{Examples}
 
 pub examples : Examples
-unfolding first flatMap eachFrom row2 row3 lengthRows readRows owns counts covers putIn placed onward placedAll row17 conflicts filledInto filled granted ownerRows reachRows authorityRows lands afterEdge afterEdges row25 comparedRows
+unfolding first flatMap eachFrom row2 row3 lengthRows readRows owns counts covers putIn placed onward placedAll row17 conflicts started filled granted ownerRows reachRows authorityRows lands afterEdge afterEdges row25 comparedRows
 examples =
     record {
       four-edges = refl;

@@ -7,7 +7,7 @@ use native.Mathlib.Omega.{arith}
 use lib.ListN.{length, replicate}
 use Rattle.accepted.proofs.Guarded.{maps-let-by}
 use Rattle.edge.specs.Edge.{owns, counts}
-use Rattle.filling.specs.Filling.{filling, putIn, placed, onward, placedAll, row17, conflicts, filledInto, filled}
+use Rattle.filling.specs.Filling.{filling, putIn, placed, onward, placedAll, row17, conflicts, started, filled}
 use Rattle.layout.specs.Layout.{layoutOf}
 use Rattle.layout.specs.Size.{outputLimit, arenaLength}
 use Rattle.perm.specs.declared.Perm.the-variants.{Rw}
@@ -28,7 +28,7 @@ use Rattle.updates.proofs.Demand3.{demand-3}
 use Rattle.updates.proofs.Granting.{base-entries, sup-entries, same-granted}
 
 fills : filled (sourceS .frames) 3 (sourceS .edges) (9 ∷ 9 ∷ []) (9 ∷ 9 ∷ 9 ∷ []) ≡ filling baseS supS accepted
-unfolding filled filledInto onward placedAll placed counts owns putIn conflicts row17 first eachFrom lengthRows row2 flatMap
+unfolding filled started onward placedAll placed counts owns putIn conflicts row17 first eachFrom lengthRows row2 flatMap
 fills = refl
 
 answers : AnswersS
