@@ -16,8 +16,8 @@ outcomeAt base sup (PastBase child) = refused (row16 child base)
 outcomeAt base sup (PastSuper child) = refused (row16 child sup)
 
 -- the filling, with the maps as they are
-abbrev pub reached : List ℕ → List ℕ → Progress → Filling
-reached base sup p = filling base sup (outcomeAt base sup p)
+abbrev pub fillingAt : List ℕ → List ℕ → Progress → Filling
+fillingAt base sup p = filling base sup (outcomeAt base sup p)
 
 -- of one map: placed, or past it
 abbrev pub unlessPast : Bool → ℕ → List ℕ → Outcome

@@ -9,7 +9,7 @@ ghost use mathlib.Core.List.{[]};
 ghost use mathlib.Core.Path.{_≡_};
 ghost use lib.ListN.{length, getD, replicate};
 ghost use Rattle.filling.specs.Filling.{filling, put, row16, putIn, placed, placedNext, onward, row17, conflicts, started};
-ghost use Rattle.filling.specs.Progress.{reached, unlessPast};
+ghost use Rattle.filling.specs.Progress.{fillingAt, unlessPast};
 ghost use Rattle.refusal.specs.Outcome.{outcomeOf};
 ghost use Rattle.refusal.specs.Table.{accepted, refused, first, eachFrom};
 
@@ -24,7 +24,7 @@ pub enum Progress {
 
 // Row 2, before any change; then both maps are cleared.
 pub fn start(base: &mut [u8], sup: &mut [u8]) -> Progress
-    ensures { λ r. ⌜ reached (now (base .exit)) (now (sup .exit)) r ≡ started (now (base .entry)) (now (sup .entry)) ⌝ }
+    ensures { λ r. ⌜ fillingAt (now (base .exit)) (now (sup .exit)) r ≡ started (now (base .entry)) (now (sup .entry)) ⌝ }
 {
     let lens = lent::map_lens(base, sup);
     let Verdict::Accepted = lens else {
@@ -44,7 +44,7 @@ pub fn place_next(
     base: &mut [u8],
     sup: &mut [u8],
 ) -> Progress
-    ensures { λ r. ⌜ reached (now (base .exit)) (now (sup .exit)) r ≡ placedNext (now (frames .entry)) dom (reached (now (base .entry)) (now (sup .entry)) «so_far») e ⌝ }
+    ensures { λ r. ⌜ fillingAt (now (base .exit)) (now (sup .exit)) r ≡ placedNext (now (frames .entry)) dom (fillingAt (now (base .entry)) (now (sup .entry)) «so_far») e ⌝ }
 {
     let Progress::Going = so_far else {
         return so_far;
@@ -54,7 +54,7 @@ pub fn place_next(
 
 // The refusal, or row 17.
 pub fn finish(so_far: Progress, base: &[u8], sup: &[u8]) -> Verdict
-    ensures { λ r. ⌜ filling (now (base .entry)) (now (sup .entry)) (outcomeOf r) ≡ onward conflicts (reached (now (base .entry)) (now (sup .entry)) «so_far») ⌝ }
+    ensures { λ r. ⌜ filling (now (base .entry)) (now (sup .entry)) (outcomeOf r) ≡ onward conflicts (fillingAt (now (base .entry)) (now (sup .entry)) «so_far») ⌝ }
 {
     match so_far {
         Progress::Going => no_conflict(base, sup),
@@ -79,7 +79,7 @@ fn past(child: u32, map: &[u8]) -> Verdict
 
 // One edge: the span is its parent's, since a frame does not know how much of the address space maps it.
 fn place_edge(e: Edge, frames: &[[u32; 2]], dom: u16, base: &mut [u8], sup: &mut [u8]) -> Progress
-    ensures { λ r. ⌜ reached (now (base .exit)) (now (sup .exit)) r ≡ placed (now (frames .entry)) dom (filling (now (base .entry)) (now (sup .entry)) accepted) e ⌝ }
+    ensures { λ r. ⌜ fillingAt (now (base .exit)) (now (sup .exit)) r ≡ placed (now (frames .entry)) dom (filling (now (base .entry)) (now (sup .entry)) accepted) e ⌝ }
 {
     if !e.counts(frames, dom) {
         return Progress::Going;

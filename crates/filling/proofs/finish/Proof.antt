@@ -4,7 +4,7 @@ use mathlib.Core.List.{List}
 use mathlib.Core.Path.{_≡_, refl, _∙_, sym, ap}
 use borrow.Author.Needs.{needs}
 use Rattle.filling.specs.Filling.{Filling, filling, onward, conflicts}
-use Rattle.filling.specs.Progress.{reached}
+use Rattle.filling.specs.Progress.{fillingAt}
 use Rattle.filling.specs.declared.Progress.{Progress}
 use Rattle.filling.proofs.Onward.{on, off}
 use Rattle.filling.proofs.finish.Statement.{statement}
@@ -37,9 +37,9 @@ enum-known-so-far-3 c = search needs
 past-requires-2 : tie.Need-past-requires-2
 past-requires-2 c κs = search needs
 
--- a step from what has been reached, by how it has been told
-after : (step : Filling → Filling) (base sup : List ℕ) {p q : Progress} → p ≡ q → onward step (reached base sup p) ≡ onward step (reached base sup q)
-after step base sup e = ap (λ r. onward step (reached base sup r)) e
+-- the next step, by the progress that was told
+after : (step : Filling → Filling) (base sup : List ℕ) {p q : Progress} → p ≡ q → onward step (fillingAt base sup p) ≡ onward step (fillingAt base sup q)
+after step base sup e = ap (λ r. onward step (fillingAt base sup r)) e
 
 returns : tie.Need-returns
 unfolding conflicts

@@ -7,7 +7,7 @@ use borrow.Author.Needs.{needs}
 use denote.Enum.Declared.{tagOf}
 use denote.Ref.{now}
 use Rattle.filling.specs.Filling.{Filling, placed, onward}
-use Rattle.filling.specs.Progress.{reached}
+use Rattle.filling.specs.Progress.{fillingAt}
 use Rattle.filling.specs.declared.Progress.{Progress}
 use Rattle.filling.specs.declared.Progress.the-variants.{Going, TooLong, Unsupported, PastBase, PastSuper}
 use Rattle.filling.proofs.Onward.{on, off}
@@ -17,7 +17,7 @@ use Rattle.filling.proofs.place_next.Tie as tie
 
 stays :
     (step : Filling → Filling) (base sup : List ℕ) (p : Progress) →
-    OneOf (1 ∷ 2 ∷ 3 ∷ 4 ∷ []) (tagOf P.the-type p) → reached base sup p ≡ onward step (reached base sup p)
+    OneOf (1 ∷ 2 ∷ 3 ∷ 4 ∷ []) (tagOf P.the-type p) → fillingAt base sup p ≡ onward step (fillingAt base sup p)
 stays step base sup Going tag = absurd (miss (1 ∷ 2 ∷ 3 ∷ 4 ∷ []) 0 tt tag)
 stays step base sup TooLong tag = sym (off step _ _ refl)
 stays step base sup (Unsupported parent) tag = sym (off step _ _ refl)
@@ -44,7 +44,7 @@ returns-2 c =
     let v = c .before .before .before .before in
     let told = v .before .before .before in
     let a = told .before .before .before .before .args in
-    let step : Progress → Filling = λ p. onward (λ h. placed (now (a .frames)) (a .dom) h (a .e)) (reached (now (a .base)) (now (a .sup)) p) in
+    let step : Progress → Filling = λ p. onward (λ h. placed (now (a .frames)) (a .dom) h (a .e)) (fillingAt (now (a .base)) (now (a .sup)) p) in
     v .place-edge .ensures ∙ sym (ap step (told .enum-told .given .1) ∙ on _ _ refl)
 
 pub place-next-spec : {M : Type 1} → statement M

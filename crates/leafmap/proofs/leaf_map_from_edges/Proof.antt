@@ -8,13 +8,13 @@ use denote.Ref.{now}
 use Rattle.edge.specs.Edge.{edgeOf, edgesOf}
 use Rattle.filling.proofs.SoFar.{PlacedTo, one-placed, all-placed}
 use Rattle.filling.specs.Filling.{placedNext}
-use Rattle.filling.specs.Progress.{reached}
+use Rattle.filling.specs.Progress.{fillingAt}
 use Rattle.leafmap.proofs.leaf_map_from_edges.Statement.{statement}
 use Rattle.leafmap.proofs.leaf_map_from_edges.Tie as tie
 
 abbrev Inv-loop : tie.InvT-loop
 Inv-loop edges frames dom base₀ sup₀ so-far₀ i₀ i-end base sup so-far i =
-    PlacedTo frames dom (edgesOf edges) (reached base₀ sup₀ so-far₀) i (reached base sup so-far)
+    PlacedTo frames dom (edgesOf edges) (fillingAt base₀ sup₀ so-far₀) i (fillingAt base sup so-far)
     × (length base ≡ length base₀)
     × (length sup ≡ length sup₀)
 
@@ -56,7 +56,7 @@ loop-again c =
     let i = h .loop .i in
     let within : i < length (edgesOf rows) = rw (length-map rows edgeOf) (in-loop .loop-test .taken) in
     let read = o .of .ensures ∙ sym (List·getD-map edgeOf rows i []) in
-    let so-far = reached (h .loop .base) (h .loop .sup) (h .loop .so-far) in (
+    let so-far = fillingAt (h .loop .base) (h .loop .sup) (h .loop .so-far) in (
       one-placed (now (a .frames)) (a .dom) (edgesOf rows) _ i so-far _ (edgeOf []) within (h .loop .inv .0)
           (v .place-next .ensures ∙ ap (placedNext (now (a .frames)) (a .dom) so-far) read),
       v .place-next .kept .1 .1 .1 .1 .0 ∙ h .loop .inv .1,

@@ -57,7 +57,7 @@ use Rattle.lending.proofs.Lent.{renamed, holding, lends, back, shares, unshares
 use Rattle.edge.specs.Edge.{edgeOf}
 use Rattle.edge.specs.declared.Edge.{Edge}
 use Rattle.filling.specs.Filling.{filling, placedNext, placedAll, onward, conflicts, started, filled}
-use Rattle.filling.specs.Progress.{reached}
+use Rattle.filling.specs.Progress.{fillingAt}
 use Rattle.filling.specs.declared.Progress.{Progress}
 use Rattle.filling.proofs.SoFar.{PlacedTo, one-placed, all-placed}
 use Rattle.refusal.specs.Outcome.{outcomeOf}
@@ -195,7 +195,7 @@ module _
         nothing ! $ move ! (4 ∷ 0 ∷ []) $ fjoin ! $ move ! (3 ∷ 0 ∷ []) $ fjoin ! $ nothing ! $ move ! (3 ∷ 0 ∷ []) $ join ! $ move ! (2 ∷ 0 ∷ []) $ join ! $ join ! $ frame ! $ done !
 
     abbrev Begun : Progress → List ℕ → List ℕ → Type 0
-    Begun r bs ss = reached bs ss r ≡ started (now base) (now sup)
+    Begun r bs ss = fillingAt bs ss r ≡ started (now base) (now sup)
 
     says-start : (ν ξ : ℕ) (δ ε : GName) (r : Progress)
         → ent 𝓤 (ensured 𝓤 H A start.ended (start.clauses 𝓤 H A mem run) (ν ∷ [], (ξ ∷ [], tt)) (lent-base δ (now base), (lent-sup ε (now sup), tt)) tt r) (mean 𝓤 H A (Left δ ε (now base) (now sup) (Begun r)))
@@ -221,7 +221,7 @@ module _
           nothing ! $ move ! (4 ∷ 0 ∷ []) $ join ! $ move ! (3 ∷ 0 ∷ []) $ join ! $ move ! (2 ∷ 0 ∷ []) $ join ! $ join ! $ frame ! $ done !
 
       abbrev Placed : Progress → Edge → List ℕ → List ℕ → Progress → List ℕ → List ℕ → Type 0
-      Placed r e bs ss r′ bs′ ss′ = reached bs′ ss′ r′ ≡ placedNext (now frames) dom (reached bs ss r) e
+      Placed r e bs ss r′ bs′ ss′ = fillingAt bs′ ss′ r′ ≡ placedNext (now frames) dom (fillingAt bs ss r) e
 
       says-next : (ν ξ : ℕ) (δ ε : GName) (r : Progress) (e : Edge) (bs ss : List ℕ) (r′ : Progress)
           → ent 𝓤 (ensured 𝓤 H A next.ended (next.clauses 𝓤 H A mem run) (κ₁, (ν ∷ [], (ξ ∷ [], tt))) (r, (e, (frames, (dom, (lent-base δ bs, (lent-sup ε ss, tt)))))) tt r′) (mean 𝓤 H A (Left δ ε bs ss (Placed r e bs ss r′)))
@@ -243,7 +243,7 @@ module _
           nothing ! $ move ! (3 ∷ 0 ∷ []) $ join ! $ move ! (2 ∷ 0 ∷ []) $ join ! $ join ! $ frame ! $ done !
 
       abbrev Finished : Progress → List ℕ → List ℕ → Verdict → Type 0
-      Finished r bs ss r′ = filling bs ss (outcomeOf r′) ≡ onward conflicts (reached bs ss r)
+      Finished r bs ss r′ = filling bs ss (outcomeOf r′) ≡ onward conflicts (fillingAt bs ss r)
 
       says-finish : (ν ξ : ℕ) (δ ε : GName) (r : Progress) (bs ss : List ℕ) (r′ : Verdict)
           → ent 𝓤 (ensured 𝓤 H A finish.ended (finish.clauses 𝓤 H A mem run) (ν ∷ [], (ξ ∷ [], tt)) (r, (lent-base δ bs, (lent-sup ε ss, tt))) tt r′) (fact 𝓤 (Finished r bs ss r′))
@@ -262,7 +262,7 @@ module _
       abbrev State : Type 0
       State =
           (i : ℕ) × ((r : Progress) × ((v : Val) × ((bs : List ℕ) × ((ss : List ℕ)
-          × ((i ≤ n) × (Is P.the-row r (v ∷ []) × ((length bs ≡ length (now base)) × ((length ss ≡ length (now sup)) × PlacedTo (now frames) dom es (started (now base) (now sup)) i (reached bs ss r)))))))))
+          × ((i ≤ n) × (Is P.the-row r (v ∷ []) × ((length bs ≡ length (now base)) × ((length ss ≡ length (now sup)) × PlacedTo (now frames) dom es (started (now base) (now sup)) i (fillingAt bs ss r)))))))))
 
       abbrev progress : State → Progress
       progress s = s .1 .0
@@ -285,7 +285,7 @@ module _
       same-sups : (s : State) → length (sups s) ≡ length (now sup)
       same-sups s = s .1 .1 .1 .1 .1 .1 .1 .1 .0
 
-      placed-to : (s : State) → PlacedTo (now frames) dom es (started (now base) (now sup)) (s .0) (reached (bases s) (sups s) (progress s))
+      placed-to : (s : State) → PlacedTo (now frames) dom es (started (now base) (now sup)) (s .0) (fillingAt (bases s) (sups s) (progress s))
       placed-to s = s .1 .1 .1 .1 .1 .1 .1 .1 .1
 
       abbrev Nearer : State → State → Type 0
@@ -416,7 +416,7 @@ module _
               forget ! 10 refl $ forget ! 11 refl $ forget ! 12 refl $ forget ! 13 refl $ forget ! 14 refl $ forget ! 15 refl $ forget ! 16 refl $ forget ! 17 refl $
               move ! (8 ∷ 9 ∷ 10 ∷ 11 ∷ 12 ∷ 13 ∷ 14 ∷ 15 ∷ 16 ∷ 17 ∷ 18 ∷ 19 ∷ 20 ∷ 21 ∷ 22 ∷ 23 ∷ 7 ∷ 4 ∷ 1 ∷ 3 ∷ 6 ∷ 5 ∷ 0 ∷ 2 ∷ []) $
               again ! Nearer At s
-              (i + 1, (r′, (u, (zs .0, (zs .1, (add-one-le within, (is-r′, (said .0 ∙ (same-bases s), (said .1 .0 ∙ (same-sups s), one-placed (now frames) dom es (started (now base) (now sup)) i (reached bs ss r) (reached (zs .0) (zs .1) r′) (edgeOf []) within (placed-to s) (said .1 .1))))))))))
+              (i + 1, (r′, (u, (zs .0, (zs .1, (add-one-le within, (is-r′, (said .0 ∙ (same-bases s), (said .1 .0 ∙ (same-sups s), one-placed (now frames) dom es (started (now base) (now sup)) i (fillingAt bs ss r) (fillingAt (zs .0) (zs .1) r′) (edgeOf []) within (placed-to s) (said .1 .1))))))))))
               (add-one-dec n i within)))))))))
             where
               offset-fits : s .0 * 16 < 2 ^ 64
@@ -477,7 +477,7 @@ module _
               -- [base; κ₂'s token; sup; κ₃'s; true; the result; _6; _7; _13; …; _20; _12; _1; …; _5; κ₀'s, κ₁'s; what edges and frames own; _0; _8; …; _11; _21; …; _24; that each local dies]
               forget ! 6 refl $ forget ! 7 refl $ forget ! 8 refl $ forget ! 16 refl $ forget ! 17 refl $ forget ! 18 refl $ forget ! 19 refl $ forget ! 20 refl $ forget ! 21 refl $ forget ! 31 refl $ forget ! 32 refl $ forget ! 33 refl $ forget ! 34 refl $
               keep ! (26 ∷ 35 ∷ 17 ∷ 36 ∷ 18 ∷ 37 ∷ 19 ∷ 38 ∷ 20 ∷ 39 ∷ 21 ∷ 40 ∷ 6 ∷ 41 ∷ 7 ∷ 42 ∷ 27 ∷ 43 ∷ 28 ∷ 44 ∷ 29 ∷ 45 ∷ 30 ∷ 46 ∷ 16 ∷ 47 ∷ 8 ∷ 48 ∷ 9 ∷ 49 ∷ 10 ∷ 50 ∷ 11 ∷ 51 ∷ 12 ∷ 52 ∷ 13 ∷ 53 ∷ 14 ∷ 54 ∷ 15 ∷ 55 ∷ 31 ∷ 56 ∷ 32 ∷ 57 ∷ 33 ∷ 58 ∷ 34 ∷ 59 ∷ 22 ∷ 23 ∷ 1 ∷ 3 ∷ 0 ∷ 2 ∷ 5 ∷ []) $
-              freed r′ u bs ss (exits r′ u bs ss (same-bases s) (same-sups s) (all-placed (now frames) dom es (started (now base) (now sup)) (now base) (now sup) refl i (reached bs ss r) (filling bs ss (outcomeOf r′)) past (placed-to s) finished))))))))
+              freed r′ u bs ss (exits r′ u bs ss (same-bases s) (same-sups s) (all-placed (now frames) dom es (started (now base) (now sup)) (now base) (now sup) refl i (fillingAt bs ss r) (filling bs ss (outcomeOf r′)) past (placed-to s) finished))))))))
 
           turns : (s : State) → Sq W (At s) (runs C Λ En text.turn-1 (anyQ (Turned s)))
           turns s = go (ltb (s .0) n) refl
