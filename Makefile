@@ -7,7 +7,7 @@ export HV_SRC ?= ../shared/docs/src
 
 JUDGE = cargo run --quiet --release --offline --manifest-path oracle/Cargo.toml -p judge --
 
-.PHONY: run test fmt header scenes compare compare-long record libraries
+.PHONY: run test fmt header scenes compare compare-long record libraries arm arm-short
 
 run:
 	@mkdir -p target
@@ -61,6 +61,15 @@ compare-long: libraries
 record: libraries
 	@$(JUDGE) record crates
 	@$(JUDGE) scenes scenes
+
+# An Arm machine as judge: the library compiled for aarch64, on two machines that QEMU emulates.
+arm:
+	@arm/build.sh
+	@arm/run.sh 2000 1
+
+arm-short:
+	@arm/build.sh
+	@arm/run.sh 60 1
 
 libraries:
 	@mkdir -p target

@@ -1,0 +1,144 @@
+#include "host.h"
+#include "manual.h"
+#include "random.h"
+#include "runs.h"
+
+#define ADDRESSES_A_SCENE 512
+/* A table outside the arena, where nothing else stands. */
+#define OUTSIDE 0x4E000000ull
+#define HIGHEST_OUTPUT (1ull << 48)
+
+/* The rows of docs/DIFFERENCES.md, "The walk differs from the manual". */
+enum cause { FLAG, L1_BLOCK, WRITE_ONLY, EXECUTE_00, EXECUTE_10, XNX_11, XNX_01, OUTSIDE_THE_ARENA, BEYOND_THE_REGIME, CAUSES };
+static const char *const names[CAUSES] = {
+    " access flag", " level 1 block", " write-only", " execute 00", " execute 10", " XNX 11", " XNX 01", " outside", " beyond the regime",
+};
+static uint64_t seen[CAUSES], addresses, agreeing;
+
+/* A table that a word names: of the arena, outside it, or past the output bits. */
+static uint64_t wild_table(uint64_t arena, unsigned bits)
+{
+    switch (below(8)) {
+    case 0:
+        return OUTSIDE;
+    case 1:
+        return bits == 48 ? arena : ((1ull << bits) + below(HIGHEST_OUTPUT - (1ull << bits))) & ADDRESS;
+    case 2:
+    case 3:
+        return (SCRATCH_FIRST + below(SCRATCH_END - SCRATCH_FIRST)) & ADDRESS;
+    default:
+        return arena + below(TABLES) * PAGE;
+    }
+}
+
+static uint64_t wild_block(void)
+{
+    return (one_in(4) ? below(HIGHEST_OUTPUT) : SCRATCH_FIRST + below(SCRATCH_END - SCRATCH_FIRST)) & ADDRESS;
+}
+
+/* Any bits around an address; mostly valid, with the access flag set, and a table or page. */
+static uint64_t wild_word(uint64_t arena, unsigned bits)
+{
+    uint64_t d = any_number() & ~ADDRESS;
+    if (!one_in(8))
+        d |= VALID;
+    if (!one_in(4))
+        d |= TABLE_OR_PAGE;
+    if (!one_in(8))
+        d |= ACCESS_FLAG;
+    return d | (d & TABLE_OR_PAGE ? wild_table(arena, bits) : wild_block());
+}
+
+static void fill_wild(uint64_t *words, size_t count, uint64_t arena, unsigned bits)
+{
+    for (size_t i = 0; i < count; i++)
+        words[i] = one_in(16) ? 0 : wild_word(arena, bits);
+}
+
+/* Which listed difference lets walk and manual differ in an access, or CAUSES where none does. */
+static enum cause cause_of(const struct translated *t, unsigned bits, bool writes, bool executes)
+{
+    uint64_t d = *t->place;
+    if (t->outside)
+        return OUTSIDE_THE_ARENA;
+    if (t->level == 1)
+        return L1_BLOCK;
+    if ((d & ADDRESS) >> bits)
+        return BEYOND_THE_REGIME;
+    if (!(d & ACCESS_FLAG))
+        return FLAG;
+    if (writes && S2AP(d) == 2)
+        return WRITE_ONLY;
+    if (executes && !(S2AP(d) & 1))
+        return S2AP(d) ? EXECUTE_10 : EXECUTE_00;
+    if (executes && has_xnx() && XN(d) & 1)
+        return XN(d) == 3 ? XNX_11 : XNX_01;
+    return CAUSES;
+}
+
+/* Notes an access in which walk and manual differ; the cause must be listed. */
+static void note(const struct translated *t, unsigned bits, bool writes, bool executes, uint64_t address)
+{
+    enum cause cause = cause_of(t, bits, writes, executes);
+    if (cause == CAUSES)
+        differ("a difference that is not listed:", address, t->verdict);
+    else
+        seen[cause]++;
+}
+
+static void compare(uint64_t arena, const struct layout *l, unsigned bits, uint64_t x)
+{
+    struct verdict walk = walked((const uint64_t *)arena, l, x);
+    struct translated t = translation(arena, bits, x);
+    struct verdict manual = t.verdict;
+    bool same_byte = walk.pa == manual.pa;
+    addresses++;
+    if (same_verdict(walk, manual))
+        agreeing++;
+    if (walk.reads != manual.reads || (walk.reads && !same_byte))
+        note(&t, bits, false, false, x);
+    if (walk.writes != manual.writes || (walk.writes && !same_byte))
+        note(&t, bits, true, false, x);
+    if (walk.executes != manual.executes || (walk.executes && !same_byte))
+        note(&t, bits, false, true, x);
+    if (!agrees(x, manual))
+        differ("the machine differs from the manual:", x, manual);
+}
+
+static bool all_seen(void)
+{
+    bool all = true;
+    for (int i = 0; i < CAUSES; i++)
+        all &= (seen[i] > 0) == (has_xnx() || (i != XNX_11 && i != XNX_01));
+    return all;
+}
+
+static void report(uint64_t scenes)
+{
+    print("wild: ");
+    print_number(scenes);
+    print(" scenes");
+    print_count(" addresses", addresses);
+    print_count(" alike", agreeing);
+    print_count(" fetches", fetches);
+    print("; accesses in which the walk differs from machine and manual");
+    for (int i = 0; i < CAUSES; i++)
+        print_count(names[i], seen[i]);
+    print_count(" other differences\n", differences);
+}
+
+bool run_wild(uint64_t scenes)
+{
+    for (uint64_t n = 0; n < scenes; n++) {
+        uint64_t arena = draw_arena();
+        unsigned bits = draw_bits();
+        struct layout l = tables_at(arena);
+        fill_wild((uint64_t *)arena, S2_ARENA_LEN, arena, bits);
+        fill_wild((uint64_t *)OUTSIDE, TABLE_LEN, arena, bits);
+        run_under(arena, bits);
+        for (int i = 0; i < ADDRESSES_A_SCENE; i++)
+            compare(arena, &l, bits, below(INPUT_LIMIT));
+    }
+    report(scenes);
+    return differences == 0 && all_seen();
+}
