@@ -161,5 +161,5 @@ bool run_emitted(uint64_t scenes)
             judge_granted(arena, scene, &list);
     }
     report(scenes);
-    return differences == 0 && reached[0][0] && reached[0][1] && reached[1][0] && reached[1][1];
+    return differences == 0 && all_seen(reached[0], 2) && all_seen(reached[1], 2);
 }

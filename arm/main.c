@@ -15,6 +15,16 @@ void print_count(const char *name, uint64_t count)
     print(name);
 }
 
+bool all_seen(const uint64_t counts[], size_t count)
+{
+    for (size_t i = 0; i < count; i++)
+        if (!counts[i]) {
+            print("too few scenes: something that is counted was not seen\n");
+            return false;
+        }
+    return true;
+}
+
 void differ(const char *what, uint64_t address, struct verdict expected)
 {
     if (differences++ >= SHOWN)

@@ -3,6 +3,7 @@
 #define RUNS_H
 
 #include <stdbool.h>
+#include <stddef.h>
 #include <stdint.h>
 
 #include "machine.h"
@@ -21,6 +22,9 @@ bool run_words(uint64_t scenes);
 
 /* A count and its name, as part of a line. */
 void print_count(const char *name, uint64_t count);
+
+/* Whether each of these counts is above 0; a run that has not seen all is no evidence. */
+bool all_seen(const uint64_t counts[], size_t count);
 
 /* Notes a difference, of which the first few are printed. */
 void differ(const char *what, uint64_t address, struct verdict expected);

@@ -105,14 +105,6 @@ static void compare(uint64_t arena, const struct layout *l, unsigned bits, uint6
         differ("the machine differs from the manual:", x, manual);
 }
 
-static bool all_seen(void)
-{
-    bool all = true;
-    for (int i = 0; i < CAUSES; i++)
-        all &= (seen[i] > 0) == (has_xnx() || (i != XNX_11 && i != XNX_01));
-    return all;
-}
-
 static void report(uint64_t scenes)
 {
     print("wild: ");
@@ -140,5 +132,6 @@ bool run_wild(uint64_t scenes)
             compare(arena, &l, bits, below(INPUT_LIMIT));
     }
     report(scenes);
-    return differences == 0 && all_seen();
+    return differences == 0 && all_seen(seen, XNX_11) && all_seen(seen + OUTSIDE_THE_ARENA, 2)
+        && (!has_xnx() || all_seen(seen + XNX_11, 2));
 }
