@@ -1,0 +1,289 @@
+//! The eleven calls of `libs2.a`, as include/dervhalt_s2.h declares them, and every `unsafe` line of this crate.
+//!
+//! What the header asks of pointers holds here by types: a reference is aligned and not null, a slice is as long as
+//! it says, and what a call may write is borrowed mutably, so that it overlaps nothing else that is lent.
+
+use crate::answer::Answer;
+use crate::layout::{Numbers, TableNumbers};
+use crate::maps::Maps;
+use crate::names::Span;
+use crate::records::{DomId, Edge, EdgeRow, Edges, Frame, Grant};
+
+/// Declares calls with a layout as their parameters, between those before and after it.
+macro_rules! declare_with_layout {
+    ($($call:ident([$($before:ident: $first:ty),*], $($after:ident: $last:ty),+);)*) => {
+        extern "C" {
+            $(fn $call(
+                $($before: $first,)*
+                l1_pa: u64,
+                l2_code_pa: u64,
+                l2_data_pa: u64,
+                l3_data_pa: u64,
+                l2_sup_pa: u64,
+                l2_dev_pa: u64,
+                has_image: u64,
+                guest_image_pa: u64,
+                data_ipa_base: u64,
+                data_pa_base: u64,
+                frame_size: u64,
+                sup_ipa_base: u64,
+                sup_pa_base: u64,
+                device_base: u64,
+                device_len: u64,
+                sup_wx_exempt: u64,
+                sup_frames: u64,
+                $($after: $last),+
+            ) -> u32;)*
+        }
+    };
+}
+
+/// The same, with an arena and two maps before the layout.
+macro_rules! declare_with_arena {
+    ($($call:ident($arena:ty, $($after:ident: $last:ty),+);)*) => {
+        declare_with_layout! {
+            $($call(
+                [
+                    arena: $arena,
+                    arena_len: usize,
+                    base: *const u8,
+                    base_len: usize,
+                    sup: *const u8,
+                    sup_len: usize
+                ],
+                $($after: $last),+
+            );)*
+        }
+    };
+}
+
+declare_with_layout! {
+    s2_validate([], values: &mut [u64; 8]);
+    s2_exposed([], values: &mut [u64; 8]);
+}
+
+declare_with_arena! {
+    s2_encode(*mut u64, values: &mut [u64; 8]);
+    s2_step(*mut u64, step: u64, values: &mut [u64; 8]);
+    s2_verify(*const u64, values: &mut [u64; 8]);
+}
+
+/// Declares calls that fill both maps from edges of one form.
+macro_rules! declare_filling {
+    ($($call:ident($edge:ty);)*) => {
+        extern "C" {
+            $(fn $call(
+                edges: *const $edge,
+                edge_count: usize,
+                frames: *const Frame,
+                frame_count: usize,
+                dom: u16,
+                base: *mut u8,
+                base_len: usize,
+                sup: *mut u8,
+                sup_len: usize,
+                values: &mut [u64; 8],
+            ) -> u32;)*
+        }
+    };
+}
+
+/// Declares calls that hold a map to edges of one form.
+macro_rules! declare_exact {
+    ($($call:ident($edge:ty);)*) => {
+        extern "C" {
+            $(fn $call(
+                dom: u16,
+                map: *const u8,
+                map_len: usize,
+                is_super: u32,
+                edges: *const $edge,
+                edge_count: usize,
+                frames: *const Frame,
+                frame_count: usize,
+                values: &mut [u64; 8],
+            ) -> u32;)*
+        }
+    };
+}
+
+declare_filling! {
+    s2_fill(EdgeRow);
+    s2_fill_edges(Edge);
+}
+
+declare_exact! {
+    s2_exact(EdgeRow);
+    s2_exact_edges(Edge);
+}
+
+extern "C" {
+    fn s2_walk(
+        arena: *const u64,
+        arena_len: usize,
+        l1_pa: u64,
+        l2_code_pa: u64,
+        l2_data_pa: u64,
+        l3_data_pa: u64,
+        l2_sup_pa: u64,
+        l2_dev_pa: u64,
+        ipa: u64,
+        values: &mut [u64; 8],
+    ) -> u32;
+
+    fn s2_authorized(
+        dom: u16,
+        map: *const u8,
+        map_len: usize,
+        frames: *const Frame,
+        frame_count: usize,
+        grants: *const Grant,
+        grant_count: usize,
+        values: &mut [u64; 8],
+    ) -> u32;
+}
+
+/// Makes a call with a layout as its parameters, between those before and after it.
+macro_rules! with_layout {
+    ($call:ident, [$($before:expr),*], $numbers:expr, $($after:expr),+) => {{
+        let [l1, l2_code, l2_data, l3_data, l2_sup, l2_dev, rest @ ..] = *$numbers;
+        let [has_image, image, data_ipa, data_pa, frame_size, rest @ ..] = rest;
+        let [sup_ipa, sup_pa, device, device_len, exempt, sup_frames] = rest;
+        $call(
+            $($before,)* l1, l2_code, l2_data, l3_data, l2_sup, l2_dev, has_image, image, data_ipa,
+            data_pa, frame_size, sup_ipa, sup_pa, device, device_len, exempt, sup_frames,
+            $($after),+
+        )
+    }};
+}
+
+/// The same, with both maps and the pointer and length of an arena before the layout.
+macro_rules! with_arena {
+    ($call:ident, $arena:expr, $arena_len:expr, $maps:expr, $numbers:expr, $($after:expr),+) => {{
+        let (base, sup) = ($maps.base(), $maps.sup());
+        with_layout!(
+            $call,
+            [$arena, $arena_len, base.as_ptr(), base.len(), sup.as_ptr(), sup.len()],
+            $numbers,
+            $($after),+
+        )
+    }};
+}
+
+pub fn validate(numbers: &Numbers) -> Answer {
+    // SAFETY: eight values are written.
+    answer(|values| unsafe { with_layout!(s2_validate, [], numbers, values) })
+}
+
+pub fn exposed(numbers: &Numbers) -> Answer {
+    // SAFETY: eight values are written.
+    answer(|values| unsafe { with_layout!(s2_exposed, [], numbers, values) })
+}
+
+pub fn encode(arena: &mut [u64], maps: Maps<'_>, numbers: &Numbers) -> Answer {
+    let (words, len) = (arena.as_mut_ptr(), arena.len());
+    // SAFETY: the arena and each map are as long as is said, and eight values are written.
+    answer(|values| unsafe { with_arena!(s2_encode, words, len, maps, numbers, values) })
+}
+
+pub fn step(arena: &mut [u64], maps: Maps<'_>, numbers: &Numbers, step: u64) -> Answer {
+    let (words, len) = (arena.as_mut_ptr(), arena.len());
+    // SAFETY: the arena and each map are as long as is said, and eight values are written.
+    answer(|values| unsafe { with_arena!(s2_step, words, len, maps, numbers, step, values) })
+}
+
+pub fn verify(arena: &[u64], maps: Maps<'_>, numbers: &Numbers) -> Answer {
+    let (words, len) = (arena.as_ptr(), arena.len());
+    // SAFETY: the arena and each map are as long as is said, and eight values are written.
+    answer(|values| unsafe { with_arena!(s2_verify, words, len, maps, numbers, values) })
+}
+
+pub fn walk(arena: &[u64], tables: &TableNumbers, ipa: u64) -> Answer {
+    let [l1, l2_code, l2_data, l3_data, l2_sup, l2_dev] = *tables;
+    let (words, len) = (arena.as_ptr(), arena.len());
+    // SAFETY: the arena is as long as is said, and eight values are written.
+    answer(|values| unsafe {
+        s2_walk(
+            words, len, l1, l2_code, l2_data, l3_data, l2_sup, l2_dev, ipa, values,
+        )
+    })
+}
+
+/// Calls a function that is lent edges, by their form, with the parameters before and after them.
+macro_rules! with_edges {
+    ($edges:expr, $rows:ident, $records:ident, [$($before:expr),*], $($after:expr),+) => {
+        match $edges {
+            Edges::Rows(edges) => $rows($($before,)* edges.as_ptr(), edges.len(), $($after),+),
+            Edges::Records(edges) => $records($($before,)* edges.as_ptr(), edges.len(), $($after),+),
+        }
+    };
+}
+
+pub fn fill(
+    edges: Edges<'_>,
+    frames: &[Frame],
+    dom: DomId,
+    base: &mut [u8],
+    sup: &mut [u8],
+) -> Answer {
+    let (owners, count) = (frames.as_ptr(), frames.len());
+    let (base, base_len) = (base.as_mut_ptr(), base.len());
+    let (sup, sup_len) = (sup.as_mut_ptr(), sup.len());
+    // SAFETY: each list and map is as long as is said, and eight values are written. The maps get no byte but 0 to 3.
+    answer(|values| unsafe {
+        with_edges!(
+            edges,
+            s2_fill,
+            s2_fill_edges,
+            [],
+            owners,
+            count,
+            dom,
+            base,
+            base_len,
+            sup,
+            sup_len,
+            values
+        )
+    })
+}
+
+pub fn exact(dom: DomId, map: &[u8], span: Span, edges: Edges<'_>, frames: &[Frame]) -> Answer {
+    let is_super = u32::from(span == Span::Super);
+    let (entries, len) = (map.as_ptr(), map.len());
+    let (owners, count) = (frames.as_ptr(), frames.len());
+    // SAFETY: the map and each list are as long as is said, and eight values are written.
+    answer(|values| unsafe {
+        with_edges!(
+            edges,
+            s2_exact,
+            s2_exact_edges,
+            [dom, entries, len, is_super],
+            owners,
+            count,
+            values
+        )
+    })
+}
+
+pub fn authorized(dom: DomId, map: &[u8], frames: &[Frame], grants: &[Grant]) -> Answer {
+    // SAFETY: the map and each list are as long as is said, and eight values are written.
+    answer(|values| unsafe {
+        s2_authorized(
+            dom,
+            map.as_ptr(),
+            map.len(),
+            frames.as_ptr(),
+            frames.len(),
+            grants.as_ptr(),
+            grants.len(),
+            values,
+        )
+    })
+}
+
+fn answer(call: impl FnOnce(&mut [u64; 8]) -> u32) -> Answer {
+    let mut values = [0; 8];
+    let number = call(&mut values);
+    Answer { number, values }
+}
