@@ -15,6 +15,19 @@ mod records;
 mod refusal;
 mod update;
 
+#[cfg(test)]
+extern crate self as dervhalt_s2;
+#[cfg(test)]
+extern crate std;
+
+#[cfg(test)]
+mod exchanges;
+#[cfg(test)]
+mod ruled_out;
+#[cfg(test)]
+#[path = "../examples/scene_s/scene.rs"]
+mod scene;
+
 pub use arena::{encode, verify_encoding, walk, Arena, ARENA_LEN};
 pub use error::Error;
 pub use layout::{Exposed, Layout, Tables};
