@@ -24,9 +24,8 @@ impl Answer {
         Ok(optional(&mut Values::of(self)))
     }
 
-    /// The contracts of the calls rule out a row past 26 and a code that has no name. Where one comes, the program is
-    /// linked with another library than this crate was written for, which no caller can mend: going on would be to
-    /// trust tables that nobody checked. So it stops, and says which answer it was.
+    /// Stops at an answer that the contracts of the calls rule out, and says which it was. The crate's
+    /// documentation has the reason.
     pub fn outside_contract(self) -> ! {
         let Answer { number, values } = self;
         panic!("libs2.a answers {number} with {values:x?}, which its contract rules out: it is another library's")

@@ -4,7 +4,7 @@ use core::fmt::{self, Display, Formatter};
 
 use crate::answer::{Carried, Values};
 
-/// An enum with the code and the printed name of each case.
+/// An enum with the code and the printed name of each case. Cast to a number, a case is its code.
 macro_rules! names {
     ($($(#[$doc:meta])* $enum:ident {
         $($(#[$case_doc:meta])* $case:ident = $code:literal, $name:literal;)*
@@ -13,7 +13,7 @@ macro_rules! names {
             $(#[$doc])*
             #[derive(Clone, Copy, PartialEq, Eq, Debug)]
             pub enum $enum {
-                $($(#[$case_doc])* $case,)*
+                $($(#[$case_doc])* $case = $code,)*
             }
 
             impl $enum {

@@ -26,7 +26,7 @@ pub const HALF_WAY: u64 = ARENA_LEN as u64;
 /// # use dervhalt_s2::{leaf_map_from_edges, Arena, Edge, Error, Frame, Layout, PageType, PtLevel};
 /// use dervhalt_s2::{Progress, Update};
 ///
-/// # fn clean_tlb() {}
+/// # fn invalidate() {}
 /// # let layout = Layout {
 /// #     l1_pa: 0x4000_0000, l2_code_pa: 0x4000_1000, l2_data_pa: 0x4000_2000,
 /// #     l3_data_pa: 0x4000_3000, l2_sup_pa: 0x4000_4000, l2_dev_pa: 0x4000_5000,
@@ -44,12 +44,24 @@ pub const HALF_WAY: u64 = ARENA_LEN as u64;
 ///     match update.step()? {
 ///         Progress::Going => {}
 ///         // DSB ISHST; TLBI VMALLS12E1IS; DSB ISH; ISB
-///         Progress::HalfWay => clean_tlb(),
-///         Progress::Ended => break clean_tlb(),
+///         Progress::HalfWay => invalidate(),
+///         Progress::Ended => break invalidate(),
 ///     }
 /// }
 /// assert!(update.walk(0x8000_1234).is_some());
 /// # Ok::<(), Error>(())
+/// ```
+///
+/// Nothing else stores to the arena while an update goes on:
+///
+/// ```compile_fail
+/// # use dervhalt_s2::{Arena, Error, Layout, Maps, Update};
+/// fn two_at_once(arena: &mut Arena, maps: Maps<'_>, layout: &Layout) -> Result<(), Error> {
+///     let mut first = Update::begin(arena, maps, layout)?;
+///     let mut second = Update::begin(arena, maps, layout)?;
+///     let _ = (first.step()?, second.step()?);
+///     Ok(())
+/// }
 /// ```
 #[derive(Debug)]
 pub struct Update<'a> {
@@ -65,9 +77,10 @@ pub struct Update<'a> {
 pub enum Progress {
     /// Nothing: the next step may follow at once.
     Going,
-    /// All words are zero. Cached translations of the old words are invalidated before the next step.
+    /// All words are zero. DSB ISHST, TLBI VMALLS12E1IS, DSB ISH, ISB: translations of the old words are
+    /// cached still.
     HalfWay,
-    /// All words are stored. The stores are made visible to the walkers before the guest relies on them.
+    /// All words are stored. The same, before the next update begins.
     Ended,
 }
 

@@ -55,7 +55,7 @@ fn verified(layout: &Layout, table: Table, index: usize, word: u64) -> Result<()
     let mut arena = Arena::ZEROS;
     encode(&mut arena, maps, layout).expect("the layout is accepted");
     verify_encoding(&arena, maps, layout).expect("what is encoded is verified");
-    arena.words[512 * table as usize + index] = word;
+    arena.words[512 * (table as usize - 1) + index] = word;
     verify_encoding(&arena, maps, layout)
 }
 
@@ -116,7 +116,7 @@ fn row_3() {
 
 #[test]
 fn rows_4_to_13() {
-    for (number, layout, expected, sentence) in layouts() {
+    for (number, layout, expected, sentence) in LAYOUTS {
         refuses(made(&layout, EDGES[0]), number, expected, sentence);
         if number != 13 {
             assert_eq!(layout.validate(), Err(expected));
@@ -126,70 +126,117 @@ fn rows_4_to_13() {
     assert_eq!(made(&LAYOUT, EDGES[0]), Ok(()));
 }
 
-fn layouts() -> [(u32, Layout, Refusal, &'static str); 10] {
-    [
-        (
-            4,
-            Layout { device_len: 4096, ..LAYOUT },
-            Refusal::DeviceWindowUnaligned { base: 0x900_0000, len: 4096 },
-            "the device window at 0x9000000 is 0x1000 bytes long, which is not whole blocks of 2 MiB",
-        ),
-        (
-            5,
-            Layout { frame_size: 16_384, ..LAYOUT },
-            Refusal::GranuleNotEmitted { frame_size: 16_384 },
-            "frames of 16384 bytes are asked for, and all have 4,096",
-        ),
-        (
-            6,
-            Layout { sup_pa_base: 0x6000_1000, ..LAYOUT },
-            Refusal::WindowUnaligned { window: Check::SuperPa, base: 0x6000_1000, align: 0x20_0000 },
-            "the super pa base 0x60001000 is not a multiple of 0x200000",
-        ),
-        (
-            7,
-            Layout { l1_pa: 1 << 48, ..LAYOUT },
-            Refusal::TableUnnameable { table: Table::L1, pa: 1 << 48 },
-            "table l1 at 0x1000000000000 is not at a multiple of 4,096 below 2^48",
-        ),
-        (
-            8,
-            Layout { sup_frames: 1 << 43, ..LAYOUT },
-            Refusal::SuperFramesUncountable { count: 1 << 43 },
-            "8796093022208 super frames are 2^43 or more, and no address counts their bytes",
-        ),
-        (
-            9,
-            Layout { sup_frames: 513, ..LAYOUT },
-            Refusal::RegionCrossesL1 { l1_index: 3, span: 513 << 21 },
-            "the window of 0x40200000 bytes from l1 slot 3 starts past 2^39 or crosses its 1 GiB",
-        ),
-        (
-            10,
-            Layout { data_pa_base: (1 << 48) - 4096, ..LAYOUT },
-            Refusal::OutputPastLimit { window: Window::Data, base: (1 << 48) - 4096 },
-            "the output of the data window, from 0xfffffffff000 on, ends above 2^48",
-        ),
-        (
-            11,
-            Layout { sup_ipa_base: 0x8020_0000, ..LAYOUT },
-            Refusal::RegionsCollide { l1_index: 2 },
-            "two windows share l1 slot 2",
-        ),
-        (
-            12,
-            Layout { sup_pa_base: 0x5000_0000, ..LAYOUT },
-            Refusal::WindowsOverlap,
-            "the outputs of two windows overlap",
-        ),
-        (
-            13,
-            Layout { l2_dev_pa: 0x4000_0000, ..LAYOUT },
-            Refusal::TablesEqual { first: Table::L1, second: Table::L2Dev },
-            "tables l1 and l2_dev have the same address",
-        ),
-    ]
-}
+const LAYOUTS: [(u32, Layout, Refusal, &str); 10] = [
+    (
+        4,
+        Layout {
+            device_len: 4096,
+            ..LAYOUT
+        },
+        Refusal::DeviceWindowUnaligned {
+            base: 0x900_0000,
+            len: 4096,
+        },
+        "the device window at 0x9000000 is 0x1000 bytes long, which is not whole blocks of 2 MiB",
+    ),
+    (
+        5,
+        Layout {
+            frame_size: 16_384,
+            ..LAYOUT
+        },
+        Refusal::GranuleNotEmitted { frame_size: 16_384 },
+        "frames of 16384 bytes are asked for, and all have 4,096",
+    ),
+    (
+        6,
+        Layout {
+            sup_pa_base: 0x6000_1000,
+            ..LAYOUT
+        },
+        Refusal::WindowUnaligned {
+            window: Check::SuperPa,
+            base: 0x6000_1000,
+            align: 0x20_0000,
+        },
+        "the super pa base 0x60001000 is not a multiple of 0x200000",
+    ),
+    (
+        7,
+        Layout {
+            l1_pa: 1 << 48,
+            ..LAYOUT
+        },
+        Refusal::TableUnnameable {
+            table: Table::L1,
+            pa: 1 << 48,
+        },
+        "table l1 at 0x1000000000000 is not at a multiple of 4,096 below 2^48",
+    ),
+    (
+        8,
+        Layout {
+            sup_frames: 1 << 43,
+            ..LAYOUT
+        },
+        Refusal::SuperFramesUncountable { count: 1 << 43 },
+        "8796093022208 super frames are 2^43 or more, and no address counts their bytes",
+    ),
+    (
+        9,
+        Layout {
+            sup_frames: 513,
+            ..LAYOUT
+        },
+        Refusal::RegionCrossesL1 {
+            l1_index: 3,
+            span: 513 << 21,
+        },
+        "the window of 0x40200000 bytes from l1 slot 3 starts past 2^39 or crosses its 1 GiB",
+    ),
+    (
+        10,
+        Layout {
+            data_pa_base: (1 << 48) - 4096,
+            ..LAYOUT
+        },
+        Refusal::OutputPastLimit {
+            window: Window::Data,
+            base: (1 << 48) - 4096,
+        },
+        "the output of the data window, from 0xfffffffff000 on, ends above 2^48",
+    ),
+    (
+        11,
+        Layout {
+            sup_ipa_base: 0x8020_0000,
+            ..LAYOUT
+        },
+        Refusal::RegionsCollide { l1_index: 2 },
+        "two windows share l1 slot 2",
+    ),
+    (
+        12,
+        Layout {
+            sup_pa_base: 0x5000_0000,
+            ..LAYOUT
+        },
+        Refusal::WindowsOverlap,
+        "the outputs of two windows overlap",
+    ),
+    (
+        13,
+        Layout {
+            l2_dev_pa: 0x4000_0000,
+            ..LAYOUT
+        },
+        Refusal::TablesEqual {
+            first: Table::L1,
+            second: Table::L2Dev,
+        },
+        "tables l1 and l2_dev have the same address",
+    ),
+];
 
 #[test]
 fn row_14() {
