@@ -24,11 +24,11 @@ impl Answer {
         Ok(optional(&mut Values::of(self)))
     }
 
-    /// Stops at an answer that the contracts of the calls rule out, and says which it was. The crate's
-    /// documentation has the reason.
+    /// Stops at an answer that the contracts of the calls rule out, and says which it was. The
+    /// crate's documentation has the reason.
     pub fn outside_contract(self) -> ! {
         let Answer { number, values } = self;
-        panic!("libs2.a answers {number} with {values:x?}, which its contract rules out: it is another library's")
+        panic!("libs2.a answers {number} with {values:x?}, which its contract rules out")
     }
 }
 

@@ -10,8 +10,8 @@ use crate::refusal::Refusal;
 /// The words of an arena: six tables of 512.
 pub const ARENA_LEN: usize = 3072;
 
-/// The words of tables l1, l2_code, l2_data, l3_data, l2_sup and l2_dev, one after the other, as the
-/// hardware reads them. It is aligned as a table has to be, and as long as six tables.
+/// The words of tables l1, l2_code, l2_data, l3_data, l2_sup and l2_dev, one after the other, as
+/// the hardware reads them. It is aligned as a table has to be, and as long as six tables.
 #[repr(C, align(4096))]
 #[derive(Clone, PartialEq, Eq, Debug)]
 pub struct Arena {
@@ -28,9 +28,9 @@ impl Arena {
 
 /// Makes the tables of a layout and two maps: rows 4 to 14, and a table in the output of a window.
 ///
-/// It is for tables that no walker reads yet: its stores come in no promised order. Tables that are in
-/// use are changed by an [`Update`](crate::Update). It clears tables 4 to 6; in 1 to 3 old words remain
-/// unless overwritten, so begin with [`Arena::ZEROS`]. A refusal changes nothing.
+/// It is for tables that no walker reads yet: its stores come in no promised order. Tables that are
+/// in use are changed by an [`Update`](crate::Update). It clears tables 4 to 6; in 1 to 3 old words
+/// remain unless overwritten, so begin with [`Arena::ZEROS`]. A refusal changes nothing.
 pub fn encode(arena: &mut Arena, maps: Maps<'_>, layout: &Layout) -> Result<(), Error> {
     layout.keeps_tables_apart()?;
     calls::encode(&mut arena.words, maps, &layout.numbers()).accepted()?;
@@ -39,8 +39,8 @@ pub fn encode(arena: &mut Arena, maps: Maps<'_>, layout: &Layout) -> Result<(), 
 
 /// What an address of the guest reaches, `None` for nothing.
 ///
-/// It reads the words as the hardware does, but for the differences that docs/DIFFERENCES.md lists; over
-/// words that this library has stored there are none.
+/// Over tables that were encoded from zeros, or updated to the end, it is what the hardware gives;
+/// docs/DIFFERENCES.md lists the other words that both read differently.
 pub fn walk(arena: &Arena, tables: &Tables, ipa: u64) -> Option<Reach> {
     let answer = calls::walk(&arena.words, &tables.numbers(), ipa);
     match answer.told() {
@@ -52,8 +52,8 @@ pub fn walk(arena: &Arena, tables: &Tables, ipa: u64) -> Option<Reach> {
 
 /// Whether the words are what the layout and the maps are encoded to: rows 4 to 12 and 18 to 22.
 ///
-/// It accepts words that the decoders read as nothing and does not read a device's access. So its yes
-/// does not bound what a walk reaches.
+/// It accepts words that the decoders read as nothing and does not read a device's access. So its
+/// yes does not bound what a walk reaches.
 pub fn verify_encoding(arena: &Arena, maps: Maps<'_>, layout: &Layout) -> Result<(), Refusal> {
     calls::verify(&arena.words, maps, &layout.numbers()).accepted()
 }

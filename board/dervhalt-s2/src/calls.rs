@@ -1,7 +1,9 @@
-//! The eleven calls of `libs2.a`, as include/dervhalt_s2.h declares them, and every `unsafe` line of this crate.
+//! The eleven calls of `libs2.a`, as include/dervhalt_s2.h declares them, and every `unsafe` line
+//! of this crate.
 //!
-//! What the header asks of pointers holds here by types: a reference is aligned and not null, a slice is as long as
-//! it says, and what a call may write is borrowed mutably, so that it overlaps nothing else that is lent.
+//! What the header asks of pointers holds here by types: a reference is aligned and not null, a
+//! slice is as long as it says, and what a call may write is borrowed mutably, so that it overlaps
+//! nothing else that is lent.
 
 use crate::answer::Answer;
 use crate::layout::{Numbers, TableNumbers};
@@ -181,13 +183,13 @@ pub fn exposed(numbers: &Numbers) -> Answer {
 }
 
 pub fn encode(arena: &mut [u64], maps: Maps<'_>, numbers: &Numbers) -> Answer {
-    let (words, len) = (arena.as_mut_ptr(), arena.len());
+    let (len, words) = (arena.len(), arena.as_mut_ptr());
     // SAFETY: the arena and each map are as long as is said, and eight values are written.
     answer(|values| unsafe { with_arena!(s2_encode, words, len, maps, numbers, values) })
 }
 
 pub fn step(arena: &mut [u64], maps: Maps<'_>, numbers: &Numbers, step: u64) -> Answer {
-    let (words, len) = (arena.as_mut_ptr(), arena.len());
+    let (len, words) = (arena.len(), arena.as_mut_ptr());
     // SAFETY: the arena and each map are as long as is said, and eight values are written.
     answer(|values| unsafe { with_arena!(s2_step, words, len, maps, numbers, step, values) })
 }
@@ -209,12 +211,16 @@ pub fn walk(arena: &[u64], tables: &TableNumbers, ipa: u64) -> Answer {
     })
 }
 
-/// Calls a function that is lent edges, by their form, with the parameters before and after them.
+/// Makes a call that is lent edges, by their form, between the parameters before and after them.
 macro_rules! with_edges {
     ($edges:expr, $rows:ident, $records:ident, [$($before:expr),*], $($after:expr),+) => {
         match $edges {
-            Edges::Rows(edges) => $rows($($before,)* edges.as_ptr(), edges.len(), $($after),+),
-            Edges::Records(edges) => $records($($before,)* edges.as_ptr(), edges.len(), $($after),+),
+            Edges::Rows(edges) => {
+                $rows($($before,)* edges.as_ptr(), edges.len(), $($after),+)
+            }
+            Edges::Records(edges) => {
+                $records($($before,)* edges.as_ptr(), edges.len(), $($after),+)
+            }
         }
     };
 }
@@ -227,9 +233,9 @@ pub fn fill(
     sup: &mut [u8],
 ) -> Answer {
     let (owners, count) = (frames.as_ptr(), frames.len());
-    let (base, base_len) = (base.as_mut_ptr(), base.len());
-    let (sup, sup_len) = (sup.as_mut_ptr(), sup.len());
-    // SAFETY: each list and map is as long as is said, and eight values are written. The maps get no byte but 0 to 3.
+    let (base_len, base) = (base.len(), base.as_mut_ptr());
+    let (sup_len, sup) = (sup.len(), sup.as_mut_ptr());
+    // SAFETY: each list and map is as long as is said, and eight values are written.
     answer(|values| unsafe {
         with_edges!(
             edges,

@@ -10,8 +10,9 @@ use crate::refusal::Refusal;
 pub enum Error {
     /// A row of document 01's table refuses.
     Refused(Refusal),
-    /// A table lies in the output of a window, so that the guest could be mapped its own tables. The library itself does
-    /// not refuse such a layout, since document 01 has no row for it; this crate does.
+    /// A table lies in the output of a window, so that the guest could be mapped its own tables.
+    /// The library itself does not refuse such a layout, since document 01 has no row for it; this
+    /// crate does.
     InReach {
         /// The lowest such table.
         table: Table,

@@ -1,78 +1,229 @@
-//! No two numbers of a layout can be exchanged on the way into the library unnoticed: the calls are
-//! asked with every two exchanged, and answer otherwise.
+//! No two numbers of a layout can be exchanged on the way into the library unnoticed.
+//!
+//! Each number has a refusal of its own, and the exemption, which no row reads, a word. Each test
+//! asks for these answers; then it exchanges every two numbers before the call, and fails where all
+//! its answers stay.
 
-use crate::answer::Answer;
+use std::fmt::Debug;
+use std::vec::Vec;
+
 use crate::arena::Arena;
 use crate::calls;
-use crate::layout::{Layout, Numbers, TableNumbers};
+use crate::layout::{Layout, Numbers};
+use crate::leaf::Reach;
 use crate::maps::{leaf_map_from_edges, Maps};
+use crate::names::{Access, Check, Table};
 use crate::records::Edge;
+use crate::refusal::Refusal;
 use crate::scene::{DOM, EDGES, FRAMES, LAYOUT};
 use crate::update::{HALF_WAY, STEPS};
 
-/// Every two of so many places, the lower one first: 136 of seventeen, 15 of six.
+/// S with an image: all seventeen numbers differ.
+const BASE: Layout = Layout {
+    guest_image_pa: Some(0x1_4000_0000),
+    ..LAYOUT
+};
+
+const fn unnameable(table: Table, pa: u64) -> Refusal {
+    Refusal::TableUnnameable { table, pa }
+}
+
+const fn unaligned(window: Check, base: u64, align: u64) -> Refusal {
+    Refusal::WindowUnaligned {
+        window,
+        base,
+        align,
+    }
+}
+
+const BLOCK: u64 = 0x20_0000;
+
+/// A refusal of each number but the exemption, in their order. The image's presence is refused
+/// where it stands in data's slot.
+const REFUSED: [(Layout, Refusal); 16] = [
+    (
+        Layout {
+            l1_pa: 0x101,
+            ..BASE
+        },
+        unnameable(Table::L1, 0x101),
+    ),
+    (
+        Layout {
+            l2_code_pa: 0x102,
+            ..BASE
+        },
+        unnameable(Table::L2Code, 0x102),
+    ),
+    (
+        Layout {
+            l2_data_pa: 0x103,
+            ..BASE
+        },
+        unnameable(Table::L2Data, 0x103),
+    ),
+    (
+        Layout {
+            l3_data_pa: 0x104,
+            ..BASE
+        },
+        unnameable(Table::L3Data, 0x104),
+    ),
+    (
+        Layout {
+            l2_sup_pa: 0x105,
+            ..BASE
+        },
+        unnameable(Table::L2Sup, 0x105),
+    ),
+    (
+        Layout {
+            l2_dev_pa: 0x106,
+            ..BASE
+        },
+        unnameable(Table::L2Dev, 0x106),
+    ),
+    (
+        Layout {
+            guest_image_pa: Some(0x8020_0000),
+            ..BASE
+        },
+        Refusal::RegionsCollide { l1_index: 2 },
+    ),
+    (
+        Layout {
+            guest_image_pa: Some(0x107),
+            ..BASE
+        },
+        unaligned(Check::Image, 0x107, BLOCK),
+    ),
+    (
+        Layout {
+            data_ipa_base: 0x108,
+            ..BASE
+        },
+        unaligned(Check::DataIpa, 0x108, BLOCK),
+    ),
+    (
+        Layout {
+            data_pa_base: 0x109,
+            ..BASE
+        },
+        unaligned(Check::DataPa, 0x109, 4096),
+    ),
+    (
+        Layout {
+            frame_size: 0x10a,
+            ..BASE
+        },
+        Refusal::GranuleNotEmitted { frame_size: 0x10a },
+    ),
+    (
+        Layout {
+            sup_ipa_base: 0x10b,
+            ..BASE
+        },
+        unaligned(Check::SuperIpa, 0x10b, BLOCK),
+    ),
+    (
+        Layout {
+            sup_pa_base: 0x10c,
+            ..BASE
+        },
+        unaligned(Check::SuperPa, 0x10c, BLOCK),
+    ),
+    (
+        Layout {
+            device_base: 0x10d,
+            ..BASE
+        },
+        unaligned(Check::Device, 0x10d, BLOCK),
+    ),
+    (
+        Layout {
+            device_len: 0x10e,
+            ..BASE
+        },
+        Refusal::DeviceWindowUnaligned {
+            base: 0x900_0000,
+            len: 0x10e,
+        },
+    ),
+    (
+        Layout {
+            sup_frames: 0x10f << 43,
+            ..BASE
+        },
+        Refusal::SuperFramesUncountable { count: 0x10f << 43 },
+    ),
+];
+
+/// What `BASE` is encoded to with S's maps and super 3 for writing: table, index and word.
+const WORDS: [(usize, usize, u64); 10] = [
+    (1, 0x000, 0x0000_0000_4000_5003),
+    (1, 0x002, 0x0000_0000_4000_2003),
+    (1, 0x003, 0x0000_0000_4000_4003),
+    (1, 0x005, 0x0000_0000_4000_1003),
+    (2, 0x000, 0x0000_0001_4000_077D),
+    (3, 0x000, 0x0000_0000_4000_3003),
+    (4, 0x001, 0x0040_0000_5000_17FF),
+    (5, 0x002, 0x0000_0000_6040_077D),
+    (5, 0x003, 0x0040_0000_6060_07FD),
+    (6, 0x048, 0x0040_0000_0900_04C1),
+];
+
+/// The one word of an exempt layout that differs.
+const EXEMPT_WORD: (usize, usize, u64) = (5, 0x003, 0x0000_0000_6060_07FD);
+
+/// Every two of so many places, the lower one first.
 fn exchanges(places: usize) -> impl Iterator<Item = (usize, usize)> {
     (0..places).flat_map(move |second| (0..second).map(move |first| (first, second)))
 }
 
-/// Fails where two numbers can be exchanged in all these lists, and the answers stay.
-fn notices<const N: usize, T: PartialEq>(lists: &[[u64; N]], mut ask: impl FnMut(&[u64; N]) -> T) {
-    let mut count = 0;
+/// Asks for the answers to some lists of numbers; then, with every two numbers exchanged, fails
+/// where all answers stay.
+fn notices<const N: usize, T: PartialEq + Debug>(
+    answers: &[([u64; N], T)],
+    ask: impl Fn(&[u64; N]) -> T,
+) {
+    for (numbers, answer) in answers {
+        assert_eq!(ask(numbers), *answer);
+    }
     for (first, second) in exchanges(N) {
-        let noticed = lists.iter().any(|numbers| {
+        let noticed = answers.iter().any(|(numbers, answer)| {
             let mut exchanged = *numbers;
             exchanged.swap(first, second);
-            ask(numbers) != ask(&exchanged)
+            ask(&exchanged) != *answer
         });
-        assert!(noticed, "numbers {first} and {second}");
-        count += 1;
+        assert!(noticed, "numbers {first} and {second} are exchanged");
     }
-    assert_eq!(count, N * (N - 1) / 2);
 }
 
-/// S with an image: all seventeen numbers differ.
-fn base() -> Numbers {
-    let numbers = Layout {
-        guest_image_pa: Some(0x1_4000_0000),
-        ..LAYOUT
-    }
-    .numbers();
+#[test]
+fn all_differ() {
+    let numbers = BASE.numbers();
     assert!(exchanges(17).all(|(first, second)| numbers[first] != numbers[second]));
-    numbers
+    assert!(exchanges(16).all(|(first, second)| REFUSED[first].1 != REFUSED[second].1));
+    assert_eq!(exchanges(17).count(), 136);
 }
 
-/// The same, and seventeen layouts that differ from it in one number each. All but those of the
-/// image's presence and the exemption are refused.
-fn layouts() -> [Numbers; 18] {
-    const OTHERS: Numbers = [
-        1 << 48,
-        2 << 48,
-        3 << 48,
-        4 << 48,
-        5 << 48,
-        6 << 48,
-        0,
-        0x1_4000_1000,
-        0x8000_1000,
-        0x5000_0800,
-        0x4000,
-        0xC000_1000,
-        0x6000_1000,
-        0x900_1000,
-        0x1000,
-        1,
-        513,
-    ];
-    let mut layouts = [base(); 18];
-    for place in 0..17 {
-        layouts[place][place] = OTHERS[place];
-        let refused = calls::validate(&layouts[place]).number != 0;
-        assert_eq!(refused, ![6, 15].contains(&place), "number {place}");
-    }
-    layouts
+/// The refusals, and that `BASE` draws none.
+fn refusals() -> Vec<(Numbers, Result<(), Refusal>)> {
+    let refused = REFUSED.map(|(layout, refusal)| (layout.numbers(), Err(refusal)));
+    let accepted = (BASE.numbers(), Ok(()));
+    refused.into_iter().chain([accepted]).collect()
 }
 
-/// Asks with S's maps and one super more, which is writable, as the exemption alters those alone.
+#[test]
+fn validate_notices() {
+    notices(&refusals(), |numbers| calls::validate(numbers).accepted());
+}
+
+#[test]
+fn exposed_notices() {
+    notices(&refusals(), |numbers| calls::exposed(numbers).accepted());
+}
+
 fn with_maps<T>(ask: impl FnOnce(Maps<'_>) -> T) -> T {
     let writable = Edge {
         child: 3,
@@ -82,36 +233,61 @@ fn with_maps<T>(ask: impl FnOnce(Maps<'_>) -> T) -> T {
     let (mut base, mut sup) = ([0; 4], [0; 4]);
     let edges = [EDGES[0], EDGES[1], writable];
     let maps = leaf_map_from_edges(&edges[..], &FRAMES, DOM, &mut base, &mut sup);
-    ask(maps.expect("S is accepted"))
+    ask(maps.expect("the edges are accepted"))
 }
 
-fn encoded(maps: Maps<'_>, numbers: &Numbers) -> (Answer, Arena) {
+fn encoded(maps: Maps<'_>) -> Arena {
     let mut arena = Arena::ZEROS;
-    let answer = calls::encode(&mut arena.words, maps, numbers);
-    (answer, arena)
-}
-
-#[test]
-fn validate_notices() {
-    notices(&layouts(), calls::validate);
-}
-
-#[test]
-fn exposed_notices() {
-    notices(&layouts(), calls::exposed);
-}
-
-#[test]
-fn encode_notices() {
-    with_maps(|maps| notices(&[base()], |numbers| encoded(maps, numbers)));
+    let answer = calls::encode(&mut arena.words, maps, &BASE.numbers());
+    assert_eq!(answer.accepted(), Ok(()));
+    arena
 }
 
 #[test]
 fn verify_notices() {
     with_maps(|maps| {
-        let (_, arena) = encoded(maps, &base());
-        notices(&layouts(), |numbers| {
-            calls::verify(&arena.words, maps, numbers)
+        let arena = encoded(maps);
+        notices(&refusals(), |numbers| {
+            calls::verify(&arena.words, maps, numbers).accepted()
+        });
+    });
+}
+
+/// What is stored over zeros: the nonzero words.
+type Stored = Result<Vec<(usize, usize, u64)>, Refusal>;
+
+fn stored(words: &[u64]) -> Stored {
+    let nonzero = |(_, word): &(usize, &u64)| **word != 0;
+    let placed = |(at, word): (usize, &u64)| (at / 512 + 1, at % 512, *word);
+    Ok(words
+        .iter()
+        .enumerate()
+        .filter(nonzero)
+        .map(placed)
+        .collect())
+}
+
+/// The words, of the layout and of an exempt one.
+fn words() -> [(Numbers, Stored); 2] {
+    let exempt = Layout {
+        sup_wx_exempt: true,
+        ..BASE
+    };
+    let mut exempt_words = WORDS;
+    exempt_words[8] = EXEMPT_WORD;
+    [
+        (BASE.numbers(), Ok(WORDS.to_vec())),
+        (exempt.numbers(), Ok(exempt_words.to_vec())),
+    ]
+}
+
+#[test]
+fn encode_notices() {
+    with_maps(|maps| {
+        notices(&words(), |numbers| {
+            let mut arena = Arena::ZEROS;
+            calls::encode(&mut arena.words, maps, numbers).accepted()?;
+            stored(&arena.words)
         });
     });
 }
@@ -119,11 +295,12 @@ fn verify_notices() {
 #[test]
 fn step_notices() {
     with_maps(|maps| {
-        notices(&[base()], |numbers| {
+        notices(&words(), |numbers| {
             let mut arena = Arena::ZEROS;
-            let step = |number| calls::step(&mut arena.words, maps, numbers, number);
-            let answer = (HALF_WAY..STEPS).map(step).last();
-            (answer, arena)
+            for step in HALF_WAY..STEPS {
+                calls::step(&mut arena.words, maps, numbers, step).accepted()?;
+            }
+            stored(&arena.words)
         });
     });
 }
@@ -131,13 +308,17 @@ fn step_notices() {
 /// By what one address in each window reaches.
 #[test]
 fn walk_notices() {
-    let [tables @ .., _, _, _, _, _, _, _, _, _, _, _] = base();
-    let tables: TableNumbers = tables;
+    let reaches = [
+        (0x1_4000_0018, (0x1_4000_0018, Access::Ro, false)),
+        (0x8000_1234, (0x5000_1234, Access::Rw, true)),
+        (0xC040_0010, (0x6040_0010, Access::Ro, false)),
+        (0x900_0018, (0x900_0018, Access::Rw, true)),
+    ];
+    let expected = reaches.map(|(_, (pa, access, xn))| Ok(Some(Reach { pa, access, xn })));
     with_maps(|maps| {
-        let (_, arena) = encoded(maps, &base());
-        notices(&[tables], |numbers| {
-            [0x1_4000_0000, 0x8000_1000, 0xC040_0000, 0x900_0000]
-                .map(|ipa| calls::walk(&arena.words, numbers, ipa))
+        let arena = encoded(maps);
+        notices(&[(BASE.tables().numbers(), expected)], |tables| {
+            reaches.map(|(ipa, _)| calls::walk(&arena.words, tables, ipa).told())
         });
     });
 }

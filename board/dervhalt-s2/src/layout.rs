@@ -43,7 +43,8 @@ pub struct Layout {
     pub device_base: u64,
     /// The bytes of the device window, whole blocks of 2 MiB; 0 is no window.
     pub device_len: u64,
-    /// Whether an `Rw` super is executable too: the one place where a guest may write what it executes.
+    /// Whether an `Rw` super is executable too: the one place where a guest may write what it
+    /// executes.
     pub sup_wx_exempt: bool,
     /// How many super frames there are.
     pub sup_frames: u64,
@@ -81,8 +82,8 @@ impl Layout {
         calls::validate(&self.numbers()).accepted()
     }
 
-    /// Which table lies in the output of a window, if any: rows 4 to 12. The guest of such a layout can be mapped its own
-    /// tables.
+    /// Which table lies in the output of a window, if any: rows 4 to 12. The guest of such a layout
+    /// can be mapped its own tables.
     pub fn exposed_table(&self) -> Result<Option<Exposed>, Refusal> {
         calls::exposed(&self.numbers()).told()
     }

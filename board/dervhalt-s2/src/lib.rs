@@ -1,8 +1,8 @@
 //! Stage-2 translation tables for board code: the calls of `libs2.a`, with types.
 //!
-//! The calls are proved, each for every input (crates/s2). This crate is not: it turns types into the
-//! numbers and slices that the calls are lent, and their answers into types. It is small, has every
-//! `unsafe` line in one file, and is tested.
+//! The calls are proved, each for every input (crates/s2). This crate is not: it turns types into
+//! the numbers and slices that the calls are lent, and their answers into types. It is small, has
+//! every `unsafe` line in one file, and is tested.
 //!
 //! # From edges to tables
 //!
@@ -65,12 +65,12 @@
 //! | one layout and one list of edges throughout an update | [`Update`], which keeps its layout and borrows its maps |
 //! | no table in the output of a window | [`encode`] and [`Update::begin`], which ask [`Layout::exposed_table`] first |
 //!
-//! The library itself does not refuse a layout with a table in the output of a window: document 01 has no
-//! row for it. But what is proved of walks is proved over the words that the library stored, and a guest
-//! that reaches a table stores others. So this crate refuses, with [`Error::InReach`].
+//! The library itself does not refuse a layout with a table in the output of a window: document 01
+//! has no row for it. But what is proved of walks is proved over the words that the library stored,
+//! and a guest that reaches a table stores others. So this crate refuses, with [`Error::InReach`].
 //!
-//! The hardware reads the words while they are borrowed. Every store is made inside a call of the library,
-//! which the Rust compiler cannot see into and so neither moves nor leaves out.
+//! The hardware reads the words while they are borrowed. Every store is made inside a call of the
+//! library, which the Rust compiler cannot see into and so neither moves nor leaves out.
 //!
 //! # Duties of board code
 //!
@@ -86,14 +86,15 @@
 //! | The same after the end of an update, and after a cut, before the next one begins. | The walkers see all stores, and no walk has reads in two updates, of which nothing is proved. |
 //! | `check_authorized_with` for both maps, with the grants. | A filling follows the edges, and asks nobody whether they are allowed. |
 //!
-//! Between the steps of one half no barrier is needed: it is proved of walks whose every read sees the words
-//! at a cut of its own, so that stores of one half may become visible in any order.
+//! Between the steps of one half no barrier is needed: it is proved of walks whose every read sees
+//! the words at a cut of its own, so that stores of one half may become visible in any order.
 //!
 //! # Answers that cannot be
 //!
-//! The contracts rule out a row past 26 and a code without a name. Where one comes all the same, the program
-//! is linked with another library than this crate was written for. The crate then panics with a sentence that
-//! has the whole answer: no caller could mend it, and going on would be to trust unchecked tables.
+//! The contracts rule out a row past 26 and a code without a name. Where one comes all the same,
+//! the program is linked with another library than this crate was written for. The crate then
+//! panics with a sentence that has the whole answer: no caller could mend it, and going on would be
+//! to trust unchecked tables.
 #![no_std]
 #![deny(missing_docs, unsafe_code)]
 
@@ -133,5 +134,6 @@ pub use records::{DomId, Edge, EdgeRow, Edges, Frame, Grant, Mfn, PageType, PtLe
 pub use refusal::Refusal;
 pub use update::{Progress, Update, HALF_WAY, STEPS};
 
-/// The value of VTCR_EL2 that the tables are made for: 4 KB granule, 39-bit input, start level 1, 40-bit output.
+/// The value of VTCR_EL2 that the tables are made for: 4 KB granule, 39-bit input, start level 1,
+/// 40-bit output.
 pub const VTCR_EL2: u64 = 0x8002_3559;

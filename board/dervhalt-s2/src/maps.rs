@@ -44,8 +44,8 @@ impl<'a> Maps<'a> {
 ///
 /// The caller chooses the maps' lengths, up to [`MAP_LEN`]. Both are cleared first. In the order of
 /// the edges, one that is no leaf, or whose parent the domain doesn't own, is skipped; a later one
-/// overwrites. Where 15 or 16 refuses, the lent bytes hold the edges before the failing one, where 17
-/// does, all edges; 2 changes nothing.
+/// overwrites. Where 15 or 16 refuses, the lent bytes hold the edges before the failing one, where
+/// 17 does, all edges; 2 changes nothing.
 ///
 /// ```
 /// use dervhalt_s2::{leaf_map_from_edges, Edge, Frame, PageType, Perm, PtLevel, Refusal, Span};
@@ -80,8 +80,8 @@ pub fn check_authorized_with(
     calls::authorized(dom, map, frames, grants).accepted()
 }
 
-/// Whether a map is what a domain's edges give for its span: rows 2, 3 and 25. The lowest frame comes
-/// first.
+/// Whether a map is what a domain's edges give for its span: rows 2, 3 and 25. The lowest frame
+/// comes first.
 pub fn check_exact<'e>(
     dom: DomId,
     map: &[u8],

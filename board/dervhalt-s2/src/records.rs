@@ -24,14 +24,15 @@ pub struct Edge {
     pub execute: bool,
 }
 
-/// An edge as a row of numbers: parent, slot, child, writable, leaf, execute. Of the last three, zero is no and all
-/// else yes.
+/// An edge as a row of numbers: parent, slot, child, writable, leaf, execute. Of the last three,
+/// zero is no and all else yes.
 pub type EdgeRow = [u32; 6];
 
 /// A list of edges, in the order in which they were made: a later one overwrites.
 ///
-/// Board code that has its edges from a model holds records. Rows are for edges that come from outside, as a block of
-/// 32-bit numbers: any number may stand in a row, while a `bool` that is neither 0 nor 1 would be undefined.
+/// Board code that has its edges from a model holds records. Rows are for edges that come from
+/// outside, as a block of 32-bit numbers: any number may stand in a row, while a `bool` that is
+/// neither 0 nor 1 would be undefined.
 #[derive(Clone, Copy, PartialEq, Eq, Debug)]
 pub enum Edges<'a> {
     /// Records.
@@ -52,8 +53,9 @@ impl<'a> From<&'a [EdgeRow]> for Edges<'a> {
     }
 }
 
-/// The level of a page table in the model of frames: L1 is the lowest. A leaf under L1 is a base page and one under L2
-/// a super page; leaves under L3 and L4 have no span, and row 15 refuses them.
+/// The level of a page table in the model of frames: L1 is the lowest. A leaf under L1 is a base
+/// page and one under L2 a super page; leaves under L3 and L4 have no span, and row 15 refuses
+/// them.
 #[derive(Clone, Copy, PartialEq, Eq, Debug)]
 pub enum PtLevel {
     /// Its entries map base pages.
@@ -75,7 +77,8 @@ pub enum PageType {
     PageTable(PtLevel),
 }
 
-/// A frame: who owns it and what it is used as. Its number is its place in the list; past the list nobody owns one.
+/// A frame: who owns it and what it is used as. Its number is its place in the list; past the list
+/// nobody owns one.
 #[repr(C)]
 #[derive(Clone, Copy, PartialEq, Eq, Debug)]
 pub struct Frame {

@@ -70,7 +70,7 @@ rows! {
         base: u64,
         /// `device_len`.
         len: u64,
-    } => "the device window at {base:#x} is {len:#x} bytes long, which is not whole blocks of 2 MiB";
+    } => "the device window at {base:#x} is {len:#x} bytes long, not whole blocks of 2 MiB";
 
     /// `frame_size` is not 4,096.
     5 GranuleNotEmitted {
@@ -108,7 +108,7 @@ rows! {
         l1_index: usize,
         /// Its bytes.
         span: u64,
-    } => "the window of {span:#x} bytes from l1 slot {l1_index} starts past 2^39 or crosses its 1 GiB";
+    } => "the window of {span:#x} bytes in l1 slot {l1_index} is past 2^39 or crosses its 1 GiB";
 
     /// The output of a window ends above 2^48.
     10 OutputPastLimit {

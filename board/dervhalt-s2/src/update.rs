@@ -14,13 +14,14 @@ pub const STEPS: u64 = 2 * HALF_WAY;
 /// The stores of an update's first half.
 pub const HALF_WAY: u64 = ARENA_LEN as u64;
 
-/// An update of tables that are in use, from what they hold to what a layout and two maps are encoded to.
+/// An update of tables that are in use, from what they hold to what a layout and two maps are
+/// encoded to.
 ///
-/// It borrows the arena, so that nothing else stores there while it goes on, and keeps its layout and
-/// maps. Each [`step`](Update::step) makes one store. Up to half-way an address reaches what it reached
-/// before or nothing; from there on what it is granted or nothing; after the last store what it is
-/// granted. To drop an update is to cut it: what was stored remains, and a new one begins at step 0, over
-/// the words that it finds.
+/// It borrows the arena, so that nothing else stores there while it goes on, and keeps its layout
+/// and maps. Each [`step`](Update::step) makes one store. Up to half-way an address reaches what it
+/// reached before or nothing; from there on what it is granted or nothing; after the last store
+/// what it is granted. To drop an update is to cut it: what was stored remains, and a new one
+/// begins at step 0, over the words that it finds.
 ///
 /// ```
 /// # use dervhalt_s2::{leaf_map_from_edges, Arena, Edge, Error, Frame, Layout, PageType, PtLevel};
@@ -77,8 +78,8 @@ pub struct Update<'a> {
 pub enum Progress {
     /// Nothing: the next step may follow at once.
     Going,
-    /// All words are zero. DSB ISHST, TLBI VMALLS12E1IS, DSB ISH, ISB: translations of the old words are
-    /// cached still.
+    /// All words are zero. DSB ISHST, TLBI VMALLS12E1IS, DSB ISH, ISB: translations of the old
+    /// words are cached still.
     HalfWay,
     /// All words are stored. The same, before the next update begins.
     Ended,
@@ -106,8 +107,8 @@ impl<'a> Update<'a> {
         }
     }
 
-    /// Makes the next store. Past the last one row 26 refuses, and no other row ever does: what they test
-    /// does not change after the update has begun.
+    /// Makes the next store. Past the last one row 26 refuses, and no other row ever does: what
+    /// they test does not change after the update has begun.
     pub fn step(&mut self) -> Result<Progress, Refusal> {
         let numbers = self.layout.numbers();
         calls::step(&mut self.arena.words, self.maps, &numbers, self.stores).accepted()?;

@@ -19,8 +19,8 @@ fn row(edge: &Edge) -> EdgeRow {
     ]
 }
 
-/// Document 01's four leaf edges: W, W+X, X, plain; then one that is no leaf, and one of a frame that is
-/// no table of the domain.
+/// Document 01's four leaf edges: W, W+X, X, plain; then one that is no leaf, and one of a frame
+/// that is no table of the domain.
 fn edges() -> [Edge; 6] {
     let leaf = |child, writable, execute| Edge {
         child,

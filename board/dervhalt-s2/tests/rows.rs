@@ -1,5 +1,5 @@
-//! Rows 2 to 26, each by document 01's example: number, values and sentence. Row 1, which the type of
-//! an arena rules out, is tested beside the calls.
+//! Rows 2 to 26, each by document 01's example: number, values and sentence. Row 1, which the type
+//! of an arena rules out, is tested beside the calls.
 
 #[path = "../examples/scene_s/scene.rs"]
 mod scene;
@@ -18,8 +18,8 @@ fn refuses(answer: Result<(), Refusal>, number: u32, expected: Refusal, sentence
     assert_eq!(refusal.to_string(), sentence);
 }
 
-/// What both calls that make tables say of a layout with S's maps and one more edge. A refusal stores
-/// nothing.
+/// What both calls that make tables say of a layout with S's maps and one more edge. A refusal
+/// stores nothing.
 fn made(layout: &Layout, edge: Edge) -> Result<(), Refusal> {
     let (mut base, mut sup) = ([0; 8], [0; 8]);
     let edges = [EDGES[0], EDGES[1], edge];
@@ -137,7 +137,7 @@ const LAYOUTS: [(u32, Layout, Refusal, &str); 10] = [
             base: 0x900_0000,
             len: 4096,
         },
-        "the device window at 0x9000000 is 0x1000 bytes long, which is not whole blocks of 2 MiB",
+        "the device window at 0x9000000 is 0x1000 bytes long, not whole blocks of 2 MiB",
     ),
     (
         5,
@@ -192,7 +192,7 @@ const LAYOUTS: [(u32, Layout, Refusal, &str); 10] = [
             l1_index: 3,
             span: 513 << 21,
         },
-        "the window of 0x40200000 bytes from l1 slot 3 starts past 2^39 or crosses its 1 GiB",
+        "the window of 0x40200000 bytes in l1 slot 3 is past 2^39 or crosses its 1 GiB",
     ),
     (
         10,

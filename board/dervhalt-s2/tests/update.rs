@@ -4,8 +4,8 @@
 mod scene;
 
 use dervhalt_s2::{
-    encode, leaf_map_from_edges, walk, Arena, Edge, Error, Layout, Maps, Progress, Reach, Table,
-    Update, Window, HALF_WAY, STEPS,
+    encode, leaf_map_from_edges, walk, Arena, Edge, Layout, Maps, Progress, Reach, Update,
+    HALF_WAY, STEPS,
 };
 use scene::{DOM, EDGES, FRAMES, LAYOUT};
 
@@ -95,7 +95,8 @@ fn stored(stores: u64) -> usize {
     word.try_into().unwrap()
 }
 
-/// An address reaches the whole answer or nothing, at half-way nothing, at the end the whole answer.
+/// An address reaches the whole answer or nothing, at half-way nothing, at the end the whole
+/// answer.
 fn allowed(stores: u64, found: Reaches, whole: &Reaches) {
     for (found, whole) in found.iter().zip(whole) {
         match stores {
@@ -139,25 +140,4 @@ fn an_update_begins_over_any_words() {
         update(&mut arena, maps, &LAYOUT, STEPS);
         assert!(arena == encoded(maps, &LAYOUT));
     });
-}
-
-#[test]
-fn no_update_begins_with_a_table_in_reach() {
-    let layout = Layout {
-        data_pa_base: 0x4000_0000,
-        ..LAYOUT
-    };
-    let mut arena = with_maps(&EDGES, |maps| encoded(maps, &LAYOUT));
-    let found = arena.clone();
-    let error = with_maps(&EDGES, |maps| {
-        Update::begin(&mut arena, maps, &layout)
-            .map(|_| ())
-            .expect_err("l1 is in reach")
-    });
-    let (table, pa, window) = (Table::L1, 0x4000_0000, Window::Data);
-    assert_eq!(error, Error::InReach { table, pa, window });
-    let sentence = "table l1 at 0x40000000 lies in the output of the data window: \
-                    the guest could write its own tables";
-    assert_eq!(error.to_string(), sentence);
-    assert!(arena == found);
 }

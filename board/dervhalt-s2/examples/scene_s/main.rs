@@ -97,7 +97,8 @@ fn update(arena: &mut Arena) -> Result<(), Error> {
     Ok(())
 }
 
-/// Board code has here: DSB ISHST, TLBI VMALLS12E1IS, DSB ISH, ISB. This program has no walker but its own.
+/// Board code has here: DSB ISHST, TLBI VMALLS12E1IS, DSB ISH, ISB. This program has no walker but
+/// its own.
 fn invalidate() {}
 
 fn print_maps(maps: Maps<'_>) {
