@@ -7,7 +7,7 @@ export HV_SRC ?= ../shared/docs/src
 
 JUDGE = cargo run --quiet --release --offline --manifest-path oracle/Cargo.toml -p judge --
 
-.PHONY: run test fmt header scenes compare compare-long record libraries arm arm-short
+.PHONY: run test fmt header scenes board compare compare-long record libraries arm arm-short
 
 run:
 	@mkdir -p target
@@ -24,6 +24,7 @@ test:
 fmt:
 	@rt fmt
 	@cargo fmt --all --manifest-path oracle/Cargo.toml
+	@cargo fmt --all --manifest-path board/dervhalt-s2/Cargo.toml
 
 # The C header declares what the static library exports.
 header:
@@ -44,6 +45,19 @@ scenes:
 	    target/bin/s2dump <$$scene | cmp - $${scene%.txt}.out || { echo "$$scene prints something else"; exit 1; }; \
 	done
 	@echo "scenes: $$(ls scenes/*.txt | wc -l) printed as they must be"
+
+# Board code in Rust and in C over the static library: the crate's tests, and what scene S prints in both.
+board:
+	@mkdir -p target
+	@{ rt check s2 && rt staticlib s2; } >target/board.log 2>&1 || { cat target/board.log; exit 1; }
+	@$(CC) -std=c99 -Wall -Wextra -Werror -Iinclude board/example.c -Ltarget/staticlib -ls2 -o target/example
+	@target/example >target/example.out || { cat target/example.out; exit 1; }
+	@diff board/example.out target/example.out
+	@cd board/dervhalt-s2 && export RUSTFLAGS=-Dwarnings RUSTDOCFLAGS=-Dwarnings && \
+	    { cargo test --offline >../../target/board.log 2>&1 || { cat ../../target/board.log; exit 1; }; } && \
+	    cargo run --quiet --offline --example scene_s >../../target/example.out
+	@diff board/example.out target/example.out
+	@echo "board: $$(grep -c '^test .* ok$$' target/board.log) tests of the crate, and scene S in Rust and C"
 
 # The port beside the Rust. Without the originals, rt ci still replays their recorded answers.
 compare:

@@ -1,8 +1,8 @@
 //! Stage-2 translation tables for board code: the calls of `libs2.a`, with types.
 //!
-//! The calls are proved, each for every input (crates/s2). This crate is not: it turns types into
-//! the numbers and slices that the calls are lent, and their answers into types. It is small, has
-//! every `unsafe` line in one file, and is tested.
+//! The calls are proved, each for every input. This crate is not: it turns types into the numbers
+//! and slices that the calls are lent, and their answers into types. Board code has duties that no
+//! type keeps: the table at the end of this page has each with its reason.
 //!
 //! # From edges to tables
 //!
@@ -54,40 +54,10 @@
 //! # Ok::<(), Error>(())
 //! ```
 //!
-//! # What the types keep
-//!
-//! | the library asks | kept by |
-//! |---|---|
-//! | pointers that are aligned, not null and as long as is said; nothing written overlaps | references and slices |
-//! | an arena of 3,072 words (row 1) | [`Arena`] |
-//! | maps filled from edges (row 3) | [`Maps`], which [`leaf_map_from_edges`] alone makes |
-//! | one updater; steps in order, from 0 on | [`Update`], which borrows the arena and counts its stores |
-//! | one layout and one list of edges throughout an update | [`Update`], which keeps its layout and borrows its maps |
-//! | no table in the output of a window | [`encode`] and [`Update::begin`], which ask [`Layout::exposed_table`] first |
-//!
-//! The library itself does not refuse a layout with a table in the output of a window: document 01
-//! has no row for it. But what is proved of walks is proved over the words that the library stored,
-//! and a guest that reaches a table stores others. So this crate refuses, with [`Error::InReach`].
+//! # Stores and the compiler
 //!
 //! The hardware reads the words while they are borrowed. Every store is made inside a call of the
 //! library, which the Rust compiler cannot see into and so neither moves nor leaves out.
-//!
-//! # Duties of board code
-//!
-//! | duty | reason |
-//! |---|---|
-//! | Word i of each table stands at the address that the layout names for the table, plus 8 i. | The hardware reads memory by address. The library has the words alone. |
-//! | The table addresses are the same through all updates of an arena. | Old words name the old addresses, and walkers go on from these. |
-//! | No core, device or second mapping stores to the arena but through its borrow. | A borrow binds this program alone. |
-//! | VTCR_EL2 is [`VTCR_EL2`], and VTTBR_EL2 names `l1_pa`. | Under another granule, input size or start level the hardware reads other words. The value names 40 output bits: from 2^40 on a table or output faults, while rows 7 and 10 refuse from 2^48 on. |
-//! | Tables in use are changed by an [`Update`]; [`encode`] is for tables that no walker reads, and begins with zeros. | Its stores come in no promised order, and in tables 1 to 3 old words remain. |
-//! | After [`encode`], before VTTBR_EL2 names the tables: DSB ISHST, ISB. | A store may wait where no walker sees it. |
-//! | At half-way of an update, before the next step: DSB ISHST, TLBI VMALLS12E1IS, DSB ISH, ISB. | Break before make. The words are zero, but translations of the old ones are cached still, and beside new words either may be used. After it no walk has reads on both sides of half-way. |
-//! | The same after the end of an update, and after a cut, before the next one begins. | The walkers see all stores, and no walk has reads in two updates, of which nothing is proved. |
-//! | `check_authorized_with` for both maps, with the grants. | A filling follows the edges, and asks nobody whether they are allowed. |
-//!
-//! Between the steps of one half no barrier is needed: it is proved of walks whose every read sees
-//! the words at a cut of its own, so that stores of one half may become visible in any order.
 //!
 //! # Answers that cannot be
 //!
@@ -95,6 +65,8 @@
 //! the program is linked with another library than this crate was written for. The crate then
 //! panics with a sentence that has the whole answer: no caller could mend it, and going on would be
 //! to trust unchecked tables.
+//!
+#![doc = include_str!("../../README.md")]
 #![no_std]
 #![deny(missing_docs, unsafe_code)]
 
