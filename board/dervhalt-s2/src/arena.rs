@@ -11,7 +11,8 @@ use crate::refusal::Refusal;
 pub const ARENA_LEN: usize = 3072;
 
 /// The words of tables l1, l2_code, l2_data, l3_data, l2_sup and l2_dev, one after the other, as
-/// the hardware reads them. It is aligned as a table has to be, and as long as six tables.
+/// the hardware reads them. It is aligned as a table has to be, and as long as six tables: board
+/// code has it as a static, whose address it gives to the layout, or in memory that it reserves.
 #[repr(C, align(4096))]
 #[derive(Clone, PartialEq, Eq, Debug)]
 pub struct Arena {
