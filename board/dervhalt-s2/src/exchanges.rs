@@ -9,6 +9,7 @@ use std::vec::Vec;
 
 use crate::arena::Arena;
 use crate::calls;
+use crate::changed::{changed, Change};
 use crate::layout::{Layout, Numbers};
 use crate::leaf::Reach;
 use crate::maps::{leaf_map_from_edges, Maps};
@@ -40,120 +41,54 @@ const BLOCK: u64 = 0x20_0000;
 
 /// A refusal of each number but the exemption, in their order. The image's presence is refused
 /// where it stands in data's slot.
-const REFUSED: [(Layout, Refusal); 16] = [
+const REFUSED: [(Change, Refusal); 16] = [
+    (|l| l.l1_pa = 0x101, unnameable(Table::L1, 0x101)),
+    (|l| l.l2_code_pa = 0x102, unnameable(Table::L2Code, 0x102)),
+    (|l| l.l2_data_pa = 0x103, unnameable(Table::L2Data, 0x103)),
+    (|l| l.l3_data_pa = 0x104, unnameable(Table::L3Data, 0x104)),
+    (|l| l.l2_sup_pa = 0x105, unnameable(Table::L2Sup, 0x105)),
+    (|l| l.l2_dev_pa = 0x106, unnameable(Table::L2Dev, 0x106)),
     (
-        Layout {
-            l1_pa: 0x101,
-            ..BASE
-        },
-        unnameable(Table::L1, 0x101),
-    ),
-    (
-        Layout {
-            l2_code_pa: 0x102,
-            ..BASE
-        },
-        unnameable(Table::L2Code, 0x102),
-    ),
-    (
-        Layout {
-            l2_data_pa: 0x103,
-            ..BASE
-        },
-        unnameable(Table::L2Data, 0x103),
-    ),
-    (
-        Layout {
-            l3_data_pa: 0x104,
-            ..BASE
-        },
-        unnameable(Table::L3Data, 0x104),
-    ),
-    (
-        Layout {
-            l2_sup_pa: 0x105,
-            ..BASE
-        },
-        unnameable(Table::L2Sup, 0x105),
-    ),
-    (
-        Layout {
-            l2_dev_pa: 0x106,
-            ..BASE
-        },
-        unnameable(Table::L2Dev, 0x106),
-    ),
-    (
-        Layout {
-            guest_image_pa: Some(0x8020_0000),
-            ..BASE
-        },
+        |l| l.guest_image_pa = Some(0x8020_0000),
         Refusal::RegionsCollide { l1_index: 2 },
     ),
     (
-        Layout {
-            guest_image_pa: Some(0x107),
-            ..BASE
-        },
+        |l| l.guest_image_pa = Some(0x107),
         unaligned(Check::Image, 0x107, BLOCK),
     ),
     (
-        Layout {
-            data_ipa_base: 0x108,
-            ..BASE
-        },
+        |l| l.data_ipa_base = 0x108,
         unaligned(Check::DataIpa, 0x108, BLOCK),
     ),
     (
-        Layout {
-            data_pa_base: 0x109,
-            ..BASE
-        },
+        |l| l.data_pa_base = 0x109,
         unaligned(Check::DataPa, 0x109, 4096),
     ),
     (
-        Layout {
-            frame_size: 0x10a,
-            ..BASE
-        },
+        |l| l.frame_size = 0x10a,
         Refusal::GranuleNotEmitted { frame_size: 0x10a },
     ),
     (
-        Layout {
-            sup_ipa_base: 0x10b,
-            ..BASE
-        },
+        |l| l.sup_ipa_base = 0x10b,
         unaligned(Check::SuperIpa, 0x10b, BLOCK),
     ),
     (
-        Layout {
-            sup_pa_base: 0x10c,
-            ..BASE
-        },
+        |l| l.sup_pa_base = 0x10c,
         unaligned(Check::SuperPa, 0x10c, BLOCK),
     ),
     (
-        Layout {
-            device_base: 0x10d,
-            ..BASE
-        },
+        |l| l.device_base = 0x10d,
         unaligned(Check::Device, 0x10d, BLOCK),
     ),
     (
-        Layout {
-            device_len: 0x10e,
-            ..BASE
-        },
+        |l| l.device_len = 0x10e,
         Refusal::DeviceWindowUnaligned {
             base: 0x900_0000,
             len: 0x10e,
         },
     ),
     (
-        Layout {
-            sup_frames: 0x10f << 43,
-            ..BASE
-        },
+        |l| l.sup_frames = 0x10f << 43,
         Refusal::SuperFramesUncountable { count: 0x10f << 43 },
     ),
 ];
@@ -209,7 +144,7 @@ fn all_differ() {
 
 /// The refusals, and that `BASE` draws none.
 fn refusals() -> Vec<(Numbers, Result<(), Refusal>)> {
-    let refused = REFUSED.map(|(layout, refusal)| (layout.numbers(), Err(refusal)));
+    let refused = REFUSED.map(|(change, refusal)| (changed(&BASE, change).numbers(), Err(refusal)));
     let accepted = (BASE.numbers(), Ok(()));
     refused.into_iter().chain([accepted]).collect()
 }
@@ -269,10 +204,7 @@ fn stored(words: &[u64]) -> Stored {
 
 /// The words, of the layout and of an exempt one.
 fn words() -> [(Numbers, Stored); 2] {
-    let exempt = Layout {
-        sup_wx_exempt: true,
-        ..BASE
-    };
+    let exempt = changed(&BASE, |l| l.sup_wx_exempt = true);
     let mut exempt_words = WORDS;
     exempt_words[8] = EXEMPT_WORD;
     [

@@ -27,13 +27,6 @@ pub struct Reach {
     pub xn: bool,
 }
 
-impl Reach {
-    /// Whether a write to this address is let by.
-    pub fn writable(self) -> bool {
-        self.access == Access::Rw
-    }
-}
-
 impl Carried for Decoded {
     const COUNT: usize = 3;
 

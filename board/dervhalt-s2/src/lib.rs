@@ -89,6 +89,9 @@ extern crate self as dervhalt_s2;
 extern crate std;
 
 #[cfg(test)]
+#[path = "../tests/changed/mod.rs"]
+mod changed;
+#[cfg(test)]
 mod exchanges;
 #[cfg(test)]
 mod ruled_out;

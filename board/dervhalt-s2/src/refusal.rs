@@ -100,7 +100,7 @@ rows! {
     8 SuperFramesUncountable {
         /// How many.
         count: u64,
-    } => "{count} super frames are 2^43 or more, and no address counts their bytes";
+    } => "{count} super frames are 2^43 or more: their bytes leave 64 bits";
 
     /// A window starts at or past 2^39, or crosses its 1 GiB.
     9 RegionCrossesL1 {
