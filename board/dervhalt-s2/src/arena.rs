@@ -40,8 +40,9 @@ pub fn encode(arena: &mut Arena, maps: Maps<'_>, layout: &Layout) -> Result<(), 
 
 /// What an address of the guest reaches, `None` for nothing.
 ///
-/// Over tables that were encoded from zeros, or updated to the end, it is what the hardware gives;
-/// docs/DIFFERENCES.md lists the other words that both read differently.
+/// Over tables that were encoded from zeros, or updated to the end, DDI 0487's translation reaches
+/// the same (theorems `demand-2-encoded` and `demand-3`); docs/DIFFERENCES.md lists the words that
+/// both read differently.
 pub fn walk(arena: &Arena, tables: &Tables, ipa: u64) -> Option<Reach> {
     let answer = calls::walk(&arena.words, &tables.numbers(), ipa);
     match answer.told() {
