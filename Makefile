@@ -53,7 +53,7 @@ board:
 	@$(CC) -std=c99 -Wall -Wextra -Werror -Iinclude board/example.c -Ltarget/staticlib -ls2 -o target/example
 	@target/example >target/example.out || { cat target/example.out; exit 1; }
 	@diff board/example.out target/example.out
-	@cd board/dervhalt-s2 && export RUSTFLAGS=-Dwarnings RUSTDOCFLAGS=-Dwarnings && \
+	@cd board/dervhalt-s2 && export S2_DIR=target/staticlib RUSTFLAGS=-Dwarnings RUSTDOCFLAGS=-Dwarnings && \
 	    { cargo test --offline >../../target/board.log 2>&1 || { cat ../../target/board.log; exit 1; }; } && \
 	    cargo run --quiet --offline --example scene_s >../../target/example.out
 	@diff board/example.out target/example.out
