@@ -38,6 +38,11 @@ pub const FAULTS: &[Fault<Fields>] = &[
             }
         },
     ),
+    fault("row-5-always", "every layout is refused", |x, answer| {
+        if *answer == ACCEPTED {
+            *answer = words([5, x[FRAME_SIZE]]);
+        }
+    }),
     fault(
         "row-5-of-32-bits",
         "only the low half of the frame size is compared",
