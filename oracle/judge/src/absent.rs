@@ -17,6 +17,7 @@ pub const LAYER: Layer = Layer {
         op: WRAPPED,
         alter: |x, answer| *answer = port::answer(WRAPPED % 256, x),
     }]],
+    wrapper_faults: &[],
 };
 
 /// Its low byte is the number of `decode_page`.
@@ -24,11 +25,12 @@ const WRAPPED: u32 = 256 + 7;
 
 const fn absent(name: &'static str, op: u32) -> Function {
     Function {
+        call: "no function",
         name,
         op,
         original: |_| NOTHING,
         boundary: || Box::new([0, 1, 3, u64::MAX].into_iter().map(one)),
-        sweep: |scale| Box::new(random(Random(11), 1_000 * scale, Random::words)),
+        sweep: |round| Box::new(random(round.seeded(11), 1_000, Random::words)),
         answers: &[("nothing", |answer| *answer == NOTHING)],
         least: 1,
         recorded: true,

@@ -28,16 +28,18 @@ pub struct Granted {
 
 pub const LAYER: Layer<Granted> = Layer {
     functions: &[Function {
+        call: "s2_authorized",
         name: "check_authorized_with",
         op: (),
         original: authorized,
         boundary: || Box::new(small_granted()),
-        sweep: |scale| Box::new(granted(scale)),
+        sweep: |round| Box::new(granted(round)),
         answers: ANSWERS,
         least: LEAST,
         recorded: false,
     }],
     faults: &[authorized_faults::FAULTS, grant_faults::FAULTS],
+    wrapper_faults: &[],
 };
 
 const ANSWERS: &[Answer] = &[

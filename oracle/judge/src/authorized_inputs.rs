@@ -5,9 +5,10 @@ use crate::inputs::{random, Random};
 use crate::map_inputs::{map, set};
 use crate::record_inputs::{domain, flag, frame, frames, other, owner, place, yes};
 use crate::records::Grant;
+use crate::round::Round;
 
-pub fn granted(scale: usize) -> impl Iterator<Item = Granted> {
-    random(Random(20), 40_000 * scale, changed).chain(random(Random(21), 40_000 * scale, crowded))
+pub fn granted(round: Round) -> impl Iterator<Item = Granted> {
+    random(round.seeded(20), 40_000, changed).chain(random(round.seeded(21), 40_000, crowded))
 }
 
 const CHANGES: [fn(&mut Random, &mut Granted); 8] = [

@@ -2,28 +2,14 @@
 
 use std::fmt::{self, Display, Formatter};
 
-use crate::function::{
-    faults, functions, Fault, Function, Input, Layer, Reply, ARENAS, ENCODINGS, EXPOSED, FILLINGS,
-    GRANTED, LAYOUTS, LINKED, SCENES, STEPS, TEXTS, TORN, UPDATES, WALKS, WORDS,
-};
+use crate::function::{faults, for_all, functions, Fault, Function, Input, Layer, Reply};
+use crate::round::Round;
 use crate::tally::Tally;
 
 /// Compares every function, with a fault on the port's side if one is named.
-pub fn compare_all(scale: usize, fault: Option<&str>) -> Result<(), String> {
-    let inputs = compare_layers(&WORDS, scale, fault)?
-        + compare_layers(&LAYOUTS, scale, fault)?
-        + compare_layers(&SCENES, scale, fault)?
-        + compare_layers(&STEPS, scale, fault)?
-        + compare_layers(&UPDATES, scale, fault)?
-        + compare_layers(&TORN, scale, fault)?
-        + compare_layers(&WALKS, scale, fault)?
-        + compare_layers(&ENCODINGS, scale, fault)?
-        + compare_layers(&ARENAS, scale, fault)?
-        + compare_layers(&EXPOSED, scale, fault)?
-        + compare_layers(&FILLINGS, scale, fault)?
-        + compare_layers(&GRANTED, scale, fault)?
-        + compare_layers(&LINKED, scale, fault)?
-        + compare_layers(&TEXTS, scale, fault)?;
+pub fn compare_all(fault: Option<&str>) -> Result<(), String> {
+    let mut inputs = 0;
+    for_all!(layers => inputs += compare_layers(layers, fault)?);
     println!("{inputs} inputs compared, no difference");
     Ok(())
 }
@@ -31,7 +17,6 @@ pub fn compare_all(scale: usize, fault: Option<&str>) -> Result<(), String> {
 /// Compares the functions of these layers and counts their inputs.
 pub fn compare_layers<I: Input>(
     layers: &'static [Layer<I>],
-    scale: usize,
     fault: Option<&str>,
 ) -> Result<u64, String> {
     let fault = faults(layers).find(|seeded| Some(seeded.name) == fault);
@@ -40,7 +25,7 @@ pub fn compare_layers<I: Input>(
     }
     let mut inputs = 0;
     for function in functions(layers) {
-        let tally = compare(function, scale, fault).map_err(|found| found.to_string())?;
+        let tally = compare(function, Round::FIRST, fault).map_err(|found| found.to_string())?;
         println!("{tally}");
         tally.complete(function.least)?;
         inputs += tally.inputs;
@@ -50,23 +35,25 @@ pub fn compare_layers<I: Input>(
 
 pub fn compare<I: Input>(
     function: &Function<I>,
-    scale: usize,
+    round: Round,
     fault: Option<&Fault<I>>,
 ) -> Result<Tally, Box<Difference>> {
     let fault = fault.filter(|fault| fault.op == function.op);
     let mut tally = Tally::new(function.name, function.answers);
-    for input in function.inputs(scale) {
+    for input in function.inputs(round) {
         let original = (function.original)(&input);
         let unaltered = input.port(function.op);
-        let mut port = unaltered.clone();
-        if let Some(fault) = fault {
+        let altered = fault.map(|fault| {
+            let mut port = unaltered.clone();
             (fault.alter)(&input, &mut port);
-        }
-        if original != port {
+            port
+        });
+        let port = altered.as_ref().unwrap_or(&unaltered);
+        if original != *port {
             return Err(Box::new(Difference {
                 function: function.name,
                 input: input.shown(),
-                original: original.shown(&port),
+                original: original.shown(port),
                 port: port.shown(&original),
                 seeded: original == unaltered,
             }));

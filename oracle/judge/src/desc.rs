@@ -12,6 +12,7 @@ use crate::inputs::{
     changed, many_codes, one, random, twice_changed, words, Random, Words, NOTHING,
 };
 use crate::port;
+use crate::round::Round;
 
 const PERM: u32 = 3;
 const MEMORY_TYPE: u32 = 4;
@@ -25,15 +26,17 @@ const DECODE_DEVICE_BLOCK: u32 = 10;
 pub const LAYER: Layer = Layer {
     functions: FUNCTIONS,
     faults: &[FAULTS],
+    wrapper_faults: &[],
 };
 
 const FUNCTIONS: &[Function] = &[
     Function {
+        call: "perm",
         name: "perm",
         op: PERM,
         original: perm,
         boundary: || Box::new(perms([0, 1, 2, 3, 4, (1 << 32) + 1, u64::MAX].into_iter())),
-        sweep: |scale| Box::new(perms(many_codes(scale))),
+        sweep: |round| Box::new(perms(many_codes(round))),
         answers: PERM_ANSWERS,
         least: 1,
         recorded: true,
@@ -55,11 +58,12 @@ const FUNCTIONS: &[Function] = &[
 /// Constants: the answer is the same for any input.
 const fn of_nothing(name: &'static str, op: u32, original: fn(&Words) -> Words) -> Function {
     Function {
+        call: name,
         name,
         op,
         original,
         boundary: || Box::new([[0; 8], [u64::MAX; 8]].into_iter()),
-        sweep: |scale| Box::new(random(Random(3), 1_000 * scale, Random::words)),
+        sweep: |round| Box::new(random(round.seeded(3), 1_000, Random::words)),
         answers: &[("eight words", |answer| !answer.contains(&0))],
         least: 1,
         recorded: true,
@@ -74,11 +78,12 @@ const fn decoder(
     answers: &'static [Answer],
 ) -> Function {
     Function {
+        call: name,
         name,
         op,
         original,
         boundary: || Box::new(descriptor_boundary().map(one)),
-        sweep: |scale| Box::new(descriptors(scale).map(one)),
+        sweep: |round| Box::new(descriptors(round).map(one)),
         answers,
         least: 1,
         recorded: true,
@@ -248,13 +253,13 @@ fn descriptor_boundary() -> impl Iterator<Item = u64> {
     [0, u64::MAX].into_iter().chain(ends).chain(changed)
 }
 
-fn descriptors(scale: usize) -> impl Iterator<Item = u64> {
-    let emitted = addresses().flat_map(|address| EMITTED.map(|word| word | address));
-    emitted
-        .flat_map(|word| changed(word).chain(twice_changed(word)))
-        .chain(low_patterns())
-        .chain(random(Random(4), 500_000 * scale, mutated))
-        .chain(Random(5).take(1_000_000 * scale))
+fn descriptors(round: Round) -> impl Iterator<Item = u64> {
+    let emitted = || addresses().flat_map(|address| EMITTED.map(|word| word | address));
+    let near = move || emitted().flat_map(|word| changed(word).chain(twice_changed(word)));
+    round
+        .once(move || near().chain(low_patterns()))
+        .chain(random(round.seeded(4), 500_000, mutated))
+        .chain(round.seeded(5).take(1_000_000))
 }
 
 /// The fixed addresses, and random ones of pages and of blocks.

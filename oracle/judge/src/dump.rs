@@ -38,21 +38,23 @@ pub enum Lines {
 pub const LAYER: Layer<Text> = Layer {
     functions: &[
         Function {
+            call: "s2dump",
             name: "s2dump",
             op: Lines::Good,
             original: dump,
             boundary: || Box::new(example_texts()),
-            sweep: |scale| Box::new(texts(scale)),
+            sweep: |round| Box::new(texts(round)),
             answers: ANSWERS,
             least: 50,
             recorded: false,
         },
         Function {
+            call: "s2dump",
             name: "s2dump, bad lines",
             op: Lines::Bad,
             original: dump,
             boundary: || Box::new(bad_texts()),
-            sweep: |scale| Box::new(mangled_texts(scale)),
+            sweep: |round| Box::new(mangled_texts(round)),
             answers: &[("BAD LINE", |answer| answer[0] == BAD_LINE)],
             least: 300,
             recorded: false,
@@ -64,6 +66,7 @@ pub const LAYER: Layer<Text> = Layer {
         reading_faults::FAULTS,
         number_faults::FAULTS,
     ],
+    wrapper_faults: &[],
 };
 
 const ANSWERS: &[Answer] = answers!([("words", row::<0>)] 4 5 6 7 8 9 10 11 12 13 14);

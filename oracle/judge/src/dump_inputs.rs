@@ -9,6 +9,7 @@ use crate::layout::{DEVICE_LEN, IMAGE, IMAGE_PRESENT};
 use crate::layout_inputs::{accepted, examples, moved, SCENE};
 use crate::map_inputs::{map, set};
 use crate::maps::MAP_LEN;
+use crate::round::Round;
 use crate::scene_text::{scene, text_lines};
 
 /// Document 01's lines of scene S, and what they print.
@@ -76,10 +77,10 @@ fn text(lines: &[String]) -> Text {
 }
 
 /// Random scenes: so many that are accepted, and so many that each row from 4 to 14 refuses.
-pub fn texts(scale: usize) -> impl Iterator<Item = Text> {
-    let mut left = [55 * scale; 15];
-    left[0] = 400 * scale;
-    let mut source = Random(24);
+pub fn texts(round: Round) -> impl Iterator<Item = Text> {
+    let mut left = [55; 15];
+    left[0] = 400;
+    let mut source = round.seeded(24);
     std::iter::from_fn(move || loop {
         if left[4..].iter().chain([&left[0]]).all(|left| *left == 0) {
             return None;
@@ -204,8 +205,8 @@ pub fn bad_texts() -> impl Iterator<Item = Text> {
 }
 
 /// Scene S with a byte changed, added or left out somewhere, if that makes a line bad.
-pub fn mangled_texts(scale: usize) -> impl Iterator<Item = Text> {
-    random(Random(25), 400 * scale, |random| {
+pub fn mangled_texts(round: Round) -> impl Iterator<Item = Text> {
+    random(round.seeded(25), 400, |random| {
         let mut text = S.as_bytes().to_vec();
         let place = random.below(text.len() as u64) as usize;
         let byte = match random.below(2) {

@@ -46,21 +46,23 @@ pub fn table(number: usize) -> Range<usize> {
 pub const LAYER: Layer<Scene> = Layer {
     functions: &[
         Function {
+            call: "s2_encode",
             name: "encode",
             op: (),
             original: encode,
             boundary: || Box::new(changed_scenes()),
-            sweep: |scale| Box::new(scenes(scale)),
+            sweep: |round| Box::new(scenes(round)),
             answers: ANSWERS,
             least: LEAST,
             recorded: false,
         },
         Function {
+            call: "s2_encode",
             name: "encode, no row refuses",
             op: (),
             original: encode,
             boundary: || Box::new(filled_scenes()),
-            sweep: |scale| Box::new(accepted_scenes(scale)),
+            sweep: |round| Box::new(accepted_scenes(round)),
             answers: &[("accepted", row::<0>)],
             least: 20_000,
             recorded: false,
@@ -72,6 +74,7 @@ pub const LAYER: Layer<Scene> = Layer {
         table_faults::FAULTS,
         leaf_faults::FAULTS,
     ],
+    wrapper_faults: &[],
 };
 
 const ANSWERS: &[Answer] = answers!([("accepted", row::<0>)] 1 2 3 4 5 6 7 8 9 10 11 12 13 14);

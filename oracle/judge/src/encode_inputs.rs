@@ -10,6 +10,7 @@ use crate::layout::{
 use crate::layout_inputs::{accepted, examples, moved, SCENE};
 use crate::map_inputs::{map, set, spoil};
 use crate::maps::MAP_LEN;
+use crate::round::Round;
 
 /// Changes of scene S around each row that `validate` does not have.
 const CHANGES: &[fn(&mut Scene)] = &[
@@ -61,8 +62,8 @@ pub fn scene(fields: Fields) -> Scene {
     }
 }
 
-pub fn scenes(scale: usize) -> impl Iterator<Item = Scene> {
-    random(Random(17), 130_000 * scale, any_scene)
+pub fn scenes(round: Round) -> impl Iterator<Item = Scene> {
+    random(round.seeded(17), 130_000, any_scene)
 }
 
 pub fn any_scene(random: &mut Random) -> Scene {
@@ -155,8 +156,8 @@ fn filled_scene(n: u64, old: u64, exempt: u64) -> Scene {
     }
 }
 
-pub fn accepted_scenes(scale: usize) -> impl Iterator<Item = Scene> {
-    random(Random(23), 25_000 * scale, accepted_scene)
+pub fn accepted_scenes(round: Round) -> impl Iterator<Item = Scene> {
+    random(round.seeded(23), 25_000, accepted_scene)
 }
 
 pub fn accepted_scene(random: &mut Random) -> Scene {

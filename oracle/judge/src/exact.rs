@@ -33,36 +33,46 @@ pub struct Linked {
 /// The answers do not tell the span, so each has a function of its own to be counted by.
 pub const LAYER: Layer<Linked> = Layer {
     functions: &[
-        of_base("check_exact, base", Form::Rows),
-        of_super("check_exact, super", Form::Rows),
-        of_base("check_exact, base, from records", Form::Records),
-        of_super("check_exact, super, from records", Form::Records),
+        of_base("s2_exact", "check_exact, base", Form::Rows),
+        of_super("s2_exact", "check_exact, super", Form::Rows),
+        of_base(
+            "s2_exact_edges",
+            "check_exact, base, from records",
+            Form::Records,
+        ),
+        of_super(
+            "s2_exact_edges",
+            "check_exact, super, from records",
+            Form::Records,
+        ),
     ],
     faults: &[
         misread::EXACT,
         exact_faults::FAULTS,
         edge_record_faults::EXACT,
     ],
+    wrapper_faults: &[],
 };
 
-const fn of_base(name: &'static str, form: Form) -> Function<Linked> {
+const fn of_base(call: &'static str, name: &'static str, form: Form) -> Function<Linked> {
     Function {
+        call,
         name,
         op: form,
         original: exact,
         boundary: || Box::new(small_linked(Span::Base)),
-        sweep: |scale| Box::new(linked(Span::Base, scale)),
+        sweep: |round| Box::new(linked(Span::Base, round)),
         answers: ANSWERS,
         least: LEAST,
         recorded: false,
     }
 }
 
-const fn of_super(name: &'static str, form: Form) -> Function<Linked> {
+const fn of_super(call: &'static str, name: &'static str, form: Form) -> Function<Linked> {
     Function {
         boundary: || Box::new(small_linked(Span::Super)),
-        sweep: |scale| Box::new(linked(Span::Super, scale)),
-        ..of_base(name, form)
+        sweep: |round| Box::new(linked(Span::Super, round)),
+        ..of_base(call, name, form)
     }
 }
 

@@ -11,6 +11,7 @@ use crate::inputs::{altered, random, Random};
 use crate::map_inputs::{bytes, set};
 use crate::maps::MAP_LEN;
 use crate::record_inputs::{edge_pairs, frame, kinds, leaf, place, tables, writable_leaf, yes};
+use crate::round::Round;
 
 /// Changes of a map without entries or edges, and the answer to them. Frame 0 is the domain's table
 /// of the span, and frame 1 that of the other span.
@@ -103,10 +104,8 @@ fn without_edges(dom: DomId, map: Vec<u8>, span: Span) -> Linked {
     }
 }
 
-pub fn linked(span: Span, scale: usize) -> impl Iterator<Item = Linked> {
-    random(Random(22), 60_000 * scale, move |random| {
-        beside(random, span)
-    })
+pub fn linked(span: Span, round: Round) -> impl Iterator<Item = Linked> {
+    random(round.seeded(22), 60_000, move |random| beside(random, span))
 }
 
 /// The map of the span that the edges fill, as it is or with a change.

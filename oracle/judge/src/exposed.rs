@@ -17,16 +17,18 @@ pub struct Exposed(pub Fields);
 
 pub const LAYER: Layer<Exposed> = Layer {
     functions: &[Function {
+        call: "s2_exposed",
         name: "exposed",
         op: (),
         original: exposed,
         boundary: || Box::new(example_layouts()),
-        sweep: |scale| Box::new(around_windows(scale).chain(layouts(scale).map(Exposed))),
+        sweep: |round| Box::new(around_windows(round).chain(layouts(round).map(Exposed))),
         answers: ANSWERS,
         least: LEAST,
         recorded: false,
     }],
     faults: &[FAULTS],
+    wrapper_faults: &[],
 };
 
 const ANSWERS: &[Answer] = answers!(

@@ -8,6 +8,7 @@ use crate::layout::{
     OUTPUT_LIMIT, PAGE, SUP_FRAMES, TABLES,
 };
 use crate::layout_inputs::{accepted, SCENE};
+use crate::round::Round;
 
 /// Changes of scene S, whose tables lie in no window.
 const EXAMPLES: &[Example<Exposed>] = &[
@@ -40,8 +41,8 @@ pub fn example_layouts() -> impl Iterator<Item = Exposed> {
     examples(EXAMPLES, || Exposed(SCENE), exposed)
 }
 
-pub fn around_windows(scale: usize) -> impl Iterator<Item = Exposed> {
-    random(Random(71), 50_000 * scale, around_window)
+pub fn around_windows(round: Round) -> impl Iterator<Item = Exposed> {
+    random(round.seeded(71), 50_000, around_window)
 }
 
 /// A layout with some tables near a window's output, or near its input, of a present window or not.

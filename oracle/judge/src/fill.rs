@@ -39,8 +39,8 @@ pub struct Filled {
 
 pub const LAYER: Layer<Filling> = Layer {
     functions: &[
-        function("fill", Form::Rows),
-        function("fill, from records", Form::Records),
+        function("s2_fill", "fill", Form::Rows),
+        function("s2_fill_edges", "fill, from records", Form::Records),
     ],
     faults: &[
         misread::FILL,
@@ -48,15 +48,17 @@ pub const LAYER: Layer<Filling> = Layer {
         conflict_faults::FAULTS,
         edge_record_faults::FILL,
     ],
+    wrapper_faults: &[],
 };
 
-const fn function(name: &'static str, form: Form) -> Function<Filling> {
+const fn function(call: &'static str, name: &'static str, form: Form) -> Function<Filling> {
     Function {
+        call,
         name,
         op: form,
         original: fill,
         boundary: || Box::new(small_fillings()),
-        sweep: |scale| Box::new(fillings(scale)),
+        sweep: |round| Box::new(fillings(round)),
         answers: ANSWERS,
         least: LEAST,
         recorded: false,

@@ -8,9 +8,10 @@ use crate::record_inputs::{
     any, domain, flag, frame, frames, kind, leaf, owner, place, spanless, yes, L1, L2,
 };
 use crate::records::Edge;
+use crate::round::Round;
 
-pub fn fillings(scale: usize) -> impl Iterator<Item = Filling> {
-    random(Random(18), 80_000 * scale, changed).chain(random(Random(19), 80_000 * scale, crowded))
+pub fn fillings(round: Round) -> impl Iterator<Item = Filling> {
+    random(round.seeded(18), 80_000, changed).chain(random(round.seeded(19), 80_000, crowded))
 }
 
 const CHANGES: [fn(&mut Random, &mut Filling); 5] = [

@@ -12,6 +12,7 @@ use crate::inputs::{altered, few_codes, hex, many_codes, one, Inputs, Words};
 use crate::layout::{self, Fields};
 use crate::port;
 use crate::reach::{self, Encoding};
+use crate::round::Round;
 use crate::step::{self, Step};
 use crate::torn::{self, Torn};
 use crate::updates::{self, List};
@@ -67,6 +68,8 @@ impl Input for Words {
 
 /// A function that the original and the port both have.
 pub struct Function<I: Input = Words> {
+    /// The call of the port that is asked: a function of `probe` or of `libs2.a`, or the program.
+    pub call: &'static str,
     pub name: &'static str,
     /// For `probe`, its number; for `s2dump`, which lines it reads; for edges, how they are lent.
     pub op: I::Op,
@@ -75,8 +78,8 @@ pub struct Function<I: Input = Words> {
     pub original: fn(&I) -> I::Reply,
     /// Inputs around which the answer changes. They are few: all of them are recorded.
     pub boundary: fn() -> Inputs<I>,
-    /// All other inputs, with the number of random ones multiplied as given.
-    pub sweep: fn(usize) -> Inputs<I>,
+    /// All other inputs that a round asks.
+    pub sweep: fn(Round) -> Inputs<I>,
     /// The kinds of answer.
     pub answers: &'static [Answer],
     /// How many inputs of a comparison must have each kind of answer.
@@ -113,7 +116,10 @@ pub fn with<I: Input<Op: Default> + Clone>(input: &I, change: impl FnOnce(&mut I
 
 pub struct Layer<I: Input = Words> {
     pub functions: &'static [Function<I>],
+    /// Slips of the port.
     pub faults: &'static [&'static [Fault<I>]],
+    /// Slips of the code here that calls the port: what it hands over, and what it hands back.
+    pub wrapper_faults: &'static [&'static [Fault<I>]],
 }
 
 /// The functions of eight words.
@@ -165,31 +171,35 @@ pub fn functions<I: Input>(
 }
 
 pub fn faults<I: Input>(layers: &'static [Layer<I>]) -> impl Iterator<Item = &'static Fault<I>> {
-    layers
-        .iter()
-        .flat_map(|layer| layer.faults.iter().copied().flatten())
+    layers.iter().flat_map(|layer| {
+        let lists = layer.faults.iter().chain(layer.wrapper_faults);
+        lists.copied().flatten()
+    })
 }
+
+/// Does the same with the layers of each input, one after another.
+macro_rules! for_all {
+    ($layers:ident => $each:expr) => {
+        $crate::function::for_all! {
+            $layers => $each,
+            WORDS LAYOUTS SCENES STEPS UPDATES TORN WALKS ENCODINGS ARENAS EXPOSED FILLINGS GRANTED
+            LINKED TEXTS
+        }
+    };
+    ($layers:ident => $each:expr, $($all:ident)*) => {
+        $({
+            let $layers = &$crate::function::$all;
+            $each;
+        })*
+    };
+}
+pub(crate) use for_all;
 
 /// The names of all faults, in the order of the self-test.
-pub fn fault_names() -> impl Iterator<Item = &'static str> {
-    names(&WORDS)
-        .chain(names(&LAYOUTS))
-        .chain(names(&SCENES))
-        .chain(names(&STEPS))
-        .chain(names(&UPDATES))
-        .chain(names(&TORN))
-        .chain(names(&WALKS))
-        .chain(names(&ENCODINGS))
-        .chain(names(&ARENAS))
-        .chain(names(&EXPOSED))
-        .chain(names(&FILLINGS))
-        .chain(names(&GRANTED))
-        .chain(names(&LINKED))
-        .chain(names(&TEXTS))
-}
-
-fn names<I: Input>(layers: &'static [Layer<I>]) -> impl Iterator<Item = &'static str> {
-    faults(layers).map(|fault| fault.name)
+pub fn fault_names() -> Vec<&'static str> {
+    let mut names = Vec::new();
+    for_all!(layers => names.extend(faults(layers).map(|fault| fault.name)));
+    names
 }
 
 impl Function {
@@ -201,11 +211,12 @@ impl Function {
         answers: &'static [Answer],
     ) -> Self {
         Function {
+            call: name,
             name,
             op,
             original,
             boundary: || Box::new(few_codes().map(one)),
-            sweep: |scale| Box::new(many_codes(scale).map(one)),
+            sweep: |round| Box::new(many_codes(round).map(one)),
             answers,
             least: 1,
             recorded: true,
@@ -214,7 +225,7 @@ impl Function {
 }
 
 impl<I: Input> Function<I> {
-    pub fn inputs(&self, scale: usize) -> impl Iterator<Item = I> {
-        (self.boundary)().chain((self.sweep)(scale))
+    pub fn inputs(&self, round: Round) -> impl Iterator<Item = I> {
+        round.once(self.boundary).chain((self.sweep)(round))
     }
 }

@@ -1,5 +1,7 @@
 //! The words that both sides are asked about.
 
+use crate::round::Round;
+
 /// The eight words of a call of `probe`, and the eight of its answer.
 pub type Words = [u64; 8];
 
@@ -31,7 +33,7 @@ pub fn hex<const N: usize>(words: &[u64; N]) -> String {
     words.map(|word| format!("{word:#x}")).join(" ")
 }
 
-/// Splitmix64, from a fixed seed: every run asks the same.
+/// Splitmix64, from a known seed: what is asked once can be asked again.
 pub struct Random(pub u64);
 
 impl Random {
@@ -109,18 +111,20 @@ pub fn few_codes() -> impl Iterator<Item = u64> {
 }
 
 /// The codes of a byte, those around every power of two above, and random ones.
-pub fn many_codes(scale: usize) -> impl Iterator<Item = u64> {
-    let around = (8..64).flat_map(|bit| (0..9).map(move |n| (1 << bit) - 1 + n));
-    (0..=255)
-        .chain(around)
-        .chain([u64::MAX])
-        .chain(random_codes(100_000 * scale))
+pub fn many_codes(round: Round) -> impl Iterator<Item = u64> {
+    let around = || (8..64).flat_map(|bit| (0..9).map(move |n| (1 << bit) - 1 + n));
+    round
+        .once(move || (0..=255).chain(around()).chain([u64::MAX]))
+        .chain(random_codes(round))
 }
 
-/// Random words, half of which have a small low half.
-fn random_codes(count: usize) -> impl Iterator<Item = u64> {
-    Random(1).take(count).map(|word| match word >> 63 {
-        0 => word << 32 | word & 7,
+/// Random words, half of which have a small low half. After the first round, half of these have no
+/// other.
+fn random_codes(round: Round) -> impl Iterator<Item = u64> {
+    let words = round.seeded(1).take(100_000);
+    words.map(move |word| match word >> 62 {
+        0 if !round.is_first() => word & 7,
+        0 | 1 => word << 32 | word & 7,
         _ => word,
     })
 }

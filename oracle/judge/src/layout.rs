@@ -50,16 +50,18 @@ pub const ACCEPTED: Outcome = [0; 9];
 
 pub const LAYER: Layer<Fields> = Layer {
     functions: &[Function {
+        call: "s2_validate",
         name: "validate",
         op: (),
         original: validate,
         boundary: || Box::new(examples()),
-        sweep: |scale| Box::new(layouts(scale)),
+        sweep: |round| Box::new(layouts(round)),
         answers: ANSWERS,
         least: LEAST,
         recorded: true,
     }],
     faults: &[FAULTS],
+    wrapper_faults: &[],
 };
 
 const ANSWERS: &[Answer] = answers!([("accepted", row::<0>)] 4 5 6 7 8 9 10 11 12);

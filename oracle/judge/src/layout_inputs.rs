@@ -7,6 +7,7 @@ use crate::layout::{
     OUTPUT_LIMIT, PAGE, SUP_FRAMES, SUP_FRAMES_LIMIT, SUP_IPA, SUP_PA, TABLES,
 };
 use crate::layout_edges::{edges, FLAGS};
+use crate::round::Round;
 
 /// Scene S of document 01.
 pub const SCENE: Fields = [
@@ -102,16 +103,15 @@ pub fn examples() -> impl Iterator<Item = Fields> {
 }
 
 /// Layouts near scene S, with an image and without one, and random ones.
-pub fn layouts(scale: usize) -> impl Iterator<Item = Fields> {
+pub fn layouts(round: Round) -> impl Iterator<Item = Fields> {
     let image = altered(SCENE, |x| {
         (x[IMAGE], x[IMAGE_PRESENT]) = (0x1_4000_0000, 1);
     });
-    [SCENE, image]
-        .into_iter()
-        .flat_map(twice_moved)
-        .chain(random(Random(13), 200_000 * scale, moved))
-        .chain(random(Random(14), 50_000 * scale, crowded))
-        .chain(random(Random(15), 10_000 * scale, any))
+    round
+        .once(move || [SCENE, image].into_iter().flat_map(twice_moved))
+        .chain(random(round.seeded(13), 200_000, moved))
+        .chain(random(round.seeded(14), 50_000, crowded))
+        .chain(random(round.seeded(15), 10_000, any))
 }
 
 /// How many random layouts of each answer are recorded.

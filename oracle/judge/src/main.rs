@@ -13,6 +13,8 @@ mod conflict_faults;
 mod damage;
 mod desc;
 mod descriptors;
+mod diff;
+mod diff_lines;
 mod dump;
 mod dump_faults;
 mod dump_inputs;
@@ -60,6 +62,7 @@ mod record_inputs;
 mod record_maps;
 mod records;
 mod regime;
+mod round;
 mod scene_text;
 mod scenes;
 mod self_test;
@@ -100,7 +103,8 @@ mod walk_word_faults;
 use std::env;
 use std::process::ExitCode;
 
-const USAGE: &str = "usage: judge compare [--long] [--fault N] | self-test | record DIR | \
+const USAGE: &str = "usage: judge compare [--fault N] | \
+    diff [--seed S] [--inputs N] [--only FUNCTION] [--round R] | self-test | record DIR | \
     check-record DIR | scenes DIR | check-scenes DIR";
 
 fn main() -> ExitCode {
@@ -118,10 +122,9 @@ fn main() -> ExitCode {
 
 fn run(arguments: &[&str]) -> Result<(), String> {
     match arguments {
-        ["compare", options @ ..] => {
-            let Options { scale, fault } = Options::parse(options).ok_or(USAGE)?;
-            compare::compare_all(scale, fault)
-        }
+        ["compare"] => compare::compare_all(None),
+        ["compare", "--fault", number] => compare::compare_all(Some(fault(number).ok_or(USAGE)?)),
+        ["diff", options @ ..] => diff::Wanted::parse(options).ok_or(USAGE)?.diff(),
         ["self-test"] => self_test::self_test(),
         ["record", folder] => record::write(folder),
         ["check-record", folder] => record::check(folder),
@@ -131,38 +134,8 @@ fn run(arguments: &[&str]) -> Result<(), String> {
     }
 }
 
-struct Options {
-    /// By how much the number of random inputs is multiplied.
-    scale: usize,
-    /// The name of the fault on the port's side.
-    fault: Option<&'static str>,
-}
-
-impl Options {
-    fn parse(mut options: &[&str]) -> Option<Self> {
-        let mut parsed = Options {
-            scale: 1,
-            fault: None,
-        };
-        loop {
-            options = match options {
-                [] => return Some(parsed),
-                ["--long", rest @ ..] => {
-                    parsed.scale = 10;
-                    rest
-                }
-                ["--fault", number, rest @ ..] => {
-                    parsed.fault = Some(fault(number)?);
-                    rest
-                }
-                _ => return None,
-            };
-        }
-    }
-}
-
 /// The faults are numbered from 1, in the order of the self-test.
 fn fault(number: &str) -> Option<&'static str> {
     let index = number.parse::<usize>().ok()?.checked_sub(1)?;
-    function::fault_names().nth(index)
+    function::fault_names().get(index).copied()
 }

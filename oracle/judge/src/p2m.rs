@@ -8,6 +8,7 @@ use crate::function::{Answer, Fault, Function, Layer};
 use crate::inputs::{altered, every, random, words, Random, Words, NOTHING};
 use crate::port;
 use crate::records::Frame;
+use crate::round::Round;
 
 const FRAME: u32 = 0;
 const LEVEL: u32 = 1;
@@ -20,25 +21,28 @@ pub const NOBODY: u64 = 1 << 16;
 pub const LAYER: Layer = Layer {
     functions: FUNCTIONS,
     faults: &[FAULTS],
+    wrapper_faults: &[],
 };
 
 const FUNCTIONS: &[Function] = &[
     Function {
+        call: "frame",
         name: "frame",
         op: FRAME,
         original: frame,
         boundary: || Box::new(frame_boundary().filter(representable)),
-        sweep: |scale| Box::new(frames(scale).filter(representable)),
+        sweep: |round| Box::new(frames(round).filter(representable)),
         answers: FRAME_ANSWERS,
         least: 1,
         recorded: true,
     },
     Function {
+        call: "frame",
         name: "frame, typed and unowned",
         op: FRAME,
         original: unowned_frame,
         boundary: || Box::new(frame_boundary().filter(|x| !representable(x))),
-        sweep: |scale| Box::new(frames(scale).filter(|x| !representable(x))),
+        sweep: |round| Box::new(frames(round).filter(|x| !representable(x))),
         answers: FRAME_ANSWERS,
         least: 1,
         recorded: false,
@@ -225,12 +229,13 @@ fn frame_boundary() -> impl Iterator<Item = Words> {
     rows.chain(lists(vec![65_535], vec![2], counts(), places()))
 }
 
-fn frames(scale: usize) -> impl Iterator<Item = Words> {
+fn frames(round: Round) -> impl Iterator<Item = Words> {
     // Each row has its turn at each place of the list.
     let turned = |x: Words| (0..3).map(move |by| altered(x, |x| x[..6].rotate_right(2 * by)));
-    lists(owners(), kinds(), counts(), places())
+    round
+        .once(|| lists(owners(), kinds(), counts(), places()))
         .flat_map(turned)
-        .chain(random(Random(2), 200_000 * scale, random_list))
+        .chain(random(round.seeded(2), 200_000, random_list))
 }
 
 fn random_list(random: &mut Random) -> Words {

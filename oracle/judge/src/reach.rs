@@ -25,16 +25,18 @@ pub struct Encoding {
 
 pub const LAYER: Layer<Encoding> = Layer {
     functions: &[Function {
+        call: "s2_walk",
         name: "walk, as the windows say",
         op: (),
         original: reach,
         boundary: || Box::new(filled_walks()),
-        sweep: |scale| Box::new(encoded_walks(scale)),
+        sweep: |round| Box::new(encoded_walks(round)),
         answers: REACHED,
         least: LEAST,
         recorded: false,
     }],
     faults: &[FAULTS],
+    wrapper_faults: &[],
 };
 
 impl Input for Encoding {

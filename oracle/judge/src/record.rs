@@ -8,6 +8,7 @@ use crate::function::{functions, Function, Input, LAYOUTS, WORDS};
 use crate::inputs::{Random, Words};
 use crate::layout_inputs;
 use crate::record_maps;
+use crate::round::Round;
 use crate::tally::Tally;
 
 /// About how many inputs of each sweep are recorded, besides the whole boundary.
@@ -46,8 +47,8 @@ pub fn check(folder: &str) -> Result<(), String> {
         println!("{program}: {count} recorded answers are the original's");
     }
     // Those that carry edges, which the program lends as rows.
-    compare_layers(&record_maps::FILLINGS, 1, None)?;
-    compare_layers(&record_maps::LINKED, 1, None)?;
+    compare_layers(&record_maps::FILLINGS, None)?;
+    compare_layers(&record_maps::LINKED, None)?;
     Ok(())
 }
 
@@ -98,9 +99,9 @@ impl Record {
 }
 
 fn selection(function: &Function) -> impl Iterator<Item = Words> {
-    let count = (function.sweep)(1).count() as u64;
+    let count = (function.sweep)(Round::FIRST).count() as u64;
     let mut random = Random(12);
-    let sample = (function.sweep)(1).filter(move |_| random.below(count) < SAMPLE);
+    let sample = (function.sweep)(Round::FIRST).filter(move |_| random.below(count) < SAMPLE);
     (function.boundary)().chain(sample)
 }
 

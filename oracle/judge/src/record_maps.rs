@@ -54,6 +54,7 @@ const COMPARED: &[Answer] = &[
 /// The recorded fillings, from records.
 pub static FILLINGS: [Layer<Filling>; 1] = [Layer {
     functions: &[Function {
+        call: "s2_fill_edges",
         name: "recorded fill, from records",
         op: Form::Records,
         original: fill,
@@ -64,11 +65,13 @@ pub static FILLINGS: [Layer<Filling>; 1] = [Layer {
         recorded: true,
     }],
     faults: &[],
+    wrapper_faults: &[],
 }];
 
 /// The recorded checks against edges, from records.
 pub static LINKED: [Layer<Linked>; 1] = [Layer {
     functions: &[Function {
+        call: "s2_exact_edges",
         name: "recorded check_exact, from records",
         op: Form::Records,
         original: exact,
@@ -79,6 +82,7 @@ pub static LINKED: [Layer<Linked>; 1] = [Layer {
         recorded: true,
     }],
     faults: &[],
+    wrapper_faults: &[],
 }];
 
 /// The lines to be read, and those to be written.

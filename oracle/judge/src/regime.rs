@@ -8,6 +8,7 @@ use hv_s2::arm64::{
 use crate::function::{Answer, Fault, Function, Layer};
 use crate::inputs::{altered, changed, every, one, random, words, Random, Words, NOTHING};
 use crate::port;
+use crate::round::Round;
 use crate::undefined::defined;
 
 const GRANULE: u32 = 11;
@@ -22,6 +23,7 @@ const VTTBR_FIELDS: u32 = 18;
 pub const LAYER: Layer = Layer {
     functions: FUNCTIONS,
     faults: &[FAULTS],
+    wrapper_faults: &[],
 };
 
 const FUNCTIONS: &[Function] = &[
@@ -30,41 +32,45 @@ const FUNCTIONS: &[Function] = &[
     Function::of_code("pa size", PA_SIZE, pa_size, PA_SIZE_ANSWERS),
     Function::of_code("vmid bits", VMID_BITS, vmid_bits, VMID_BITS_ANSWERS),
     Function {
+        call: "regime",
         name: "regime",
         op: REGIME,
         original: regime,
         boundary: || Box::new(regime_boundary()),
-        sweep: |scale| Box::new(regimes(scale)),
+        sweep: |round| Box::new(regimes(round)),
         answers: REGIME_ANSWERS,
         least: 1,
         recorded: true,
     },
     Function {
+        call: "decode_vtcr_el2",
         name: "decode_vtcr_el2",
         op: DECODE_VTCR_EL2,
         original: decoded_vtcr,
         boundary: || Box::new(vtcr_boundary().map(one)),
-        sweep: |scale| Box::new(vtcrs(scale).map(one)),
+        sweep: |round| Box::new(vtcrs(round).map(one)),
         answers: DECODE_VTCR_ANSWERS,
         least: 1,
         recorded: true,
     },
     Function {
+        call: "vttbr",
         name: "vttbr",
         op: VTTBR,
         original: |x| words([vttbr(x[0], x[1])]),
         boundary: || Box::new(vttbr_boundary()),
-        sweep: |scale| Box::new(random(Random(9), 500_000 * scale, random_vttbr)),
+        sweep: |round| Box::new(random(round.seeded(9), 500_000, random_vttbr)),
         answers: VTTBR_ANSWERS,
         least: 1,
         recorded: true,
     },
     Function {
+        call: "vttbr_table and vttbr_vmid",
         name: "vttbr_table and vttbr_vmid",
         op: VTTBR_FIELDS,
         original: vttbr_fields,
         boundary: || Box::new(vttbr_boundary().map(|x| one(vttbr(x[0], x[1])))),
-        sweep: |scale| Box::new(Random(10).take(500_000 * scale).map(one)),
+        sweep: |round| Box::new(round.seeded(10).take(500_000).map(one)),
         answers: VTTBR_FIELDS_ANSWERS,
         least: 1,
         recorded: true,
@@ -279,7 +285,7 @@ fn starts() -> impl Iterator<Item = Words> {
 
 /// Every size with all of the codes, then every size with all walk attributes: a product of both
 /// would spend its time in panics.
-fn regimes(scale: usize) -> impl Iterator<Item = Words> {
+fn regimes(round: Round) -> impl Iterator<Item = Words> {
     let wide = [(1 << 32) - 1, 1 << 32, (1 << 32) + 39, u64::MAX];
     let sizes: Vec<u64> = (0..=130).chain(wide).collect();
     let walk = || vec![0, 1, 2, 3, 4, u64::MAX];
@@ -288,9 +294,9 @@ fn regimes(scale: usize) -> impl Iterator<Item = Words> {
     let mut walked = coded.clone();
     (coded[3], coded[7]) = (codes(7), codes(2));
     (walked[4], walked[5], walked[6]) = (walk(), walk(), walk());
-    every(coded)
-        .chain(every(walked))
-        .chain(random(Random(7), 200_000 * scale, random_regime))
+    round
+        .once(|| every(coded).chain(every(walked)))
+        .chain(random(round.seeded(7), 200_000, random_regime))
 }
 
 fn random_regime(random: &mut Random) -> Words {
@@ -313,14 +319,15 @@ fn vtcr_boundary() -> impl Iterator<Item = u64> {
         .chain(regime_boundary().filter_map(vtcr_of))
 }
 
-fn vtcrs(scale: usize) -> impl Iterator<Item = u64> {
+fn vtcrs(round: Round) -> impl Iterator<Item = u64> {
     let regimes = every([3, 49, 4, 7, 4, 4, 4, 2].map(codes));
     let valid: Vec<u64> = regimes.filter_map(vtcr_of).collect();
-    let near = valid.clone().into_iter().flat_map(changed);
+    let near = valid.clone();
     let mutated = move |random: &mut Random| random.pick(&valid) ^ random.sparse();
-    near.chain(all_fields())
-        .chain(random(Random(8), 500_000 * scale, mutated))
-        .chain(Random(9).take(1_000_000 * scale))
+    round
+        .once(|| near.into_iter().flat_map(changed).chain(all_fields()))
+        .chain(random(round.seeded(8), 500_000, mutated))
+        .chain(round.seeded(9).take(1_000_000))
 }
 
 /// All values of the twenty bits that are fields, under each value of the two that stand apart.

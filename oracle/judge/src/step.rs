@@ -29,37 +29,41 @@ pub const HALF_WAY: u64 = 3_072;
 pub const LAYER: Layer<Step> = Layer {
     functions: &[
         Function {
+            call: "s2_step",
             name: "step",
             op: (),
             original: step,
             boundary: || Box::new(example_steps()),
-            sweep: |scale| Box::new(steps(scale)),
+            sweep: |round| Box::new(steps(round)),
             answers: ROWS,
             least: LEAST,
             recorded: false,
         },
         Function {
+            call: "s2_step",
             name: "step, zeroing",
             op: (),
             original: step,
             boundary: || Box::new(filled_zeroing()),
-            sweep: |scale| Box::new(zeroing_steps(scale)),
+            sweep: |round| Box::new(zeroing_steps(round)),
             answers: STORED,
             least: 10_000,
             recorded: false,
         },
         Function {
+            call: "s2_step",
             name: "step, storing",
             op: (),
             original: step,
             boundary: || Box::new(filled_storing()),
-            sweep: |scale| Box::new(storing_steps(scale)),
+            sweep: |round| Box::new(storing_steps(round)),
             answers: STORED,
             least: 10_000,
             recorded: false,
         },
     ],
     faults: &[step_row_faults::FAULTS, step_store_faults::FAULTS],
+    wrapper_faults: &[],
 };
 
 const ROWS: &[Answer] = answers!([("accepted", row::<0>)] 1 2 3 4 5 6 7 8 9 10 11 12 13 14 26);

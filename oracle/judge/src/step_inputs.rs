@@ -10,6 +10,7 @@ use crate::inputs::{random, Random};
 use crate::layout::L2_DEV;
 use crate::layout_inputs::SCENE;
 use crate::map_inputs::set;
+use crate::round::Round;
 use crate::step::{step, Step, HALF_WAY, STEPS};
 
 /// Steps of scene S by hand: row 26 comes last.
@@ -66,8 +67,8 @@ pub fn example_steps() -> impl Iterator<Item = Step> {
         .chain(numbered(Random(81), changed_scenes()))
 }
 
-pub fn steps(scale: usize) -> impl Iterator<Item = Step> {
-    numbered(Random(82), scenes(scale))
+pub fn steps(round: Round) -> impl Iterator<Item = Step> {
+    numbered(round.seeded(82), scenes(round))
 }
 
 pub fn any_step(random: &mut Random) -> Step {
@@ -98,8 +99,8 @@ pub fn filled_zeroing() -> impl Iterator<Item = Step> {
     filled_scenes().map(move |scene| zeroing(&mut random, scene))
 }
 
-pub fn zeroing_steps(scale: usize) -> impl Iterator<Item = Step> {
-    random(Random(84), 15_000 * scale, |random| {
+pub fn zeroing_steps(round: Round) -> impl Iterator<Item = Step> {
+    random(round.seeded(84), 15_000, |random| {
         let scene = accepted_scene(random);
         zeroing(random, scene)
     })
@@ -117,8 +118,8 @@ pub fn filled_storing() -> impl Iterator<Item = Step> {
     filled_scenes().map(move |scene| storing(&mut random, scene))
 }
 
-pub fn storing_steps(scale: usize) -> impl Iterator<Item = Step> {
-    random(Random(86), 30_000 * scale, |random| {
+pub fn storing_steps(round: Round) -> impl Iterator<Item = Step> {
+    random(round.seeded(86), 30_000, |random| {
         let scene = accepted_scene(random);
         storing(random, scene)
     })

@@ -29,10 +29,24 @@ impl Tally {
         }
     }
 
+    /// Counts what another tally of the function has counted.
+    pub fn add(&mut self, other: &Tally) {
+        self.inputs += other.inputs;
+        for (count, more) in self.counts.iter_mut().zip(&other.counts) {
+            *count += more;
+        }
+    }
+
+    /// The kinds of answer, each with its count.
+    pub fn answers(&self) -> impl Iterator<Item = (&'static str, u64)> + '_ {
+        let counts = self.counts.iter().copied();
+        self.answers.iter().map(|(answer, _)| *answer).zip(counts)
+    }
+
     /// Fails for a kind of answer that too few inputs have: it would go unchecked.
     pub fn complete(&self, least: u64) -> Result<(), String> {
-        for (count, (answer, _)) in self.counts.iter().zip(self.answers) {
-            if *count < least {
+        for (answer, count) in self.answers() {
+            if count < least {
                 let name = self.function;
                 return Err(format!(
                     "{name}: {count} inputs have the answer {answer}, not {least} or more"
@@ -46,7 +60,7 @@ impl Tally {
 impl Display for Tally {
     fn fmt(&self, f: &mut Formatter) -> fmt::Result {
         write!(f, "{}: {} inputs", self.function, self.inputs)?;
-        for (count, (answer, _)) in self.counts.iter().zip(self.answers) {
+        for (answer, count) in self.answers() {
             write!(f, ", {answer} {count}")?;
         }
         Ok(())

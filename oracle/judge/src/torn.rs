@@ -51,16 +51,18 @@ impl Answers {
 
 pub const LAYER: Layer<Torn> = Layer {
     functions: &[Function {
+        call: "s2_walk",
         name: "walk, torn by an update",
         op: (),
         original: answers,
         boundary: || Box::new(once_with(torn_update_of_s)),
-        sweep: |scale| Box::new(torn_updates(scale)),
+        sweep: |round| Box::new(torn_updates(round)),
         answers: ANSWERS,
         least: LEAST,
         recorded: false,
     }],
     faults: &[FAULTS],
+    wrapper_faults: &[],
 };
 
 impl Input for Torn {

@@ -9,6 +9,7 @@ use crate::inputs::{random, Random};
 use crate::layout::{Fields, BLOCK, DATA_IPA, L1_SPAN, PAGE, TABLES};
 use crate::layout_inputs::{accepted, SCENE};
 use crate::reach::granted;
+use crate::round::Round;
 use crate::source::Source;
 use crate::source_inputs::{found, next_layout, source, source_s};
 use crate::step::{Step, HALF_WAY, STEPS};
@@ -26,12 +27,18 @@ pub fn torn_update_of_s() -> Torn {
         first: target(&source.scene),
         updates: Vec::new(),
     };
-    torn(&mut Random(89), &SCENE, list, source, &refused_steps())
+    torn(
+        &mut Random(89),
+        &SCENE,
+        list,
+        source,
+        &refused_steps(Round::FIRST),
+    )
 }
 
-pub fn torn_updates(scale: usize) -> impl Iterator<Item = Torn> {
-    let refused = refused_steps();
-    random(Random(90), 640 * scale, move |random| {
+pub fn torn_updates(round: Round) -> impl Iterator<Item = Torn> {
+    let refused = refused_steps(round);
+    random(round.seeded(90), 640, move |random| {
         let old = accepted(random);
         let first = found(random, &old);
         let layout = next_layout(random, &old);

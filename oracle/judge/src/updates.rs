@@ -65,16 +65,18 @@ const STORES: usize = 9;
 
 pub const LAYER: Layer<List> = Layer {
     functions: &[Function {
+        call: "s2_step",
         name: "update",
         op: (),
         original: updated,
         boundary: || Box::new(updates_of_s()),
-        sweep: |scale| Box::new(lists(scale)),
+        sweep: |round| Box::new(lists(round)),
         answers: ANSWERS,
         least: LEAST,
         recorded: false,
     }],
     faults: &[FAULTS],
+    wrapper_faults: &[],
 };
 
 const ANSWERS: &[Answer] = answers!(

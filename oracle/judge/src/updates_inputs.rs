@@ -8,6 +8,7 @@ use crate::encode::ARENA_LEN;
 use crate::fenced;
 use crate::inputs::{random, Random};
 use crate::layout_inputs::accepted;
+use crate::round::Round;
 use crate::source::Source;
 use crate::source_inputs::{found, next_layout, source, source_s};
 use crate::step::{refusal, Step, HALF_WAY, STEPS};
@@ -32,11 +33,9 @@ pub fn updates_of_s() -> impl Iterator<Item = List> {
     })
 }
 
-pub fn lists(scale: usize) -> impl Iterator<Item = List> {
-    let refused = refused_steps();
-    random(Random(87), 550 * scale, move |random| {
-        list(random, &refused)
-    })
+pub fn lists(round: Round) -> impl Iterator<Item = List> {
+    let refused = refused_steps(round);
+    random(round.seeded(87), 550, move |random| list(random, &refused))
 }
 
 fn list(random: &mut Random, refused: &[Rc<Step>]) -> List {
@@ -110,8 +109,8 @@ const SAMPLE: usize = 24;
 
 /// Steps that a row refuses, as many of each row. They are handed the arena of a list, or a part of
 /// it, or more.
-pub fn refused_steps() -> Vec<Rc<Step>> {
-    let mut random = Random(88);
+pub fn refused_steps(round: Round) -> Vec<Rc<Step>> {
+    let mut random = round.seeded(88);
     let mut left: [usize; 27] = array::from_fn(|row| match row {
         1..=14 | 26 => SAMPLE,
         _ => 0,

@@ -27,12 +27,12 @@ pub const LAYER: Layer<Arena> = Layer {
     functions: &[
         Function {
             boundary: || Box::new(example_arenas()),
-            sweep: |scale| Box::new(found(scale)),
+            sweep: |round| Box::new(found(round)),
             ..function("verify", ROWS)
         },
         Function {
             boundary: || Box::new(filled()),
-            sweep: |scale| Box::new(encoded(scale)),
+            sweep: |round| Box::new(encoded(round)),
             least: 20_000,
             ..function("verify, as encoded", &[("accepted", row::<0>)])
         },
@@ -44,7 +44,7 @@ pub const LAYER: Layer<Arena> = Layer {
         of_table::<6>("verify, l2_dev damaged", TABLE_6),
         Function {
             boundary: || Box::new(unbacked_examples()),
-            sweep: |scale| Box::new(unbacked(scale)),
+            sweep: |round| Box::new(unbacked(round)),
             ..function("verify, supers past the frames", UNBACKED)
         },
     ],
@@ -56,10 +56,12 @@ pub const LAYER: Layer<Arena> = Layer {
         verify_leaf_faults::FAULTS,
         verify_value_faults::FAULTS,
     ],
+    wrapper_faults: &[],
 };
 
 const fn function(name: &'static str, answers: &'static [Answer]) -> Function<Arena> {
     Function {
+        call: "s2_verify",
         name,
         op: (),
         original: verify,
@@ -78,7 +80,7 @@ const fn of_table<const TABLE: usize>(
 ) -> Function<Arena> {
     Function {
         boundary: || Box::new(every_place::<TABLE>()),
-        sweep: |scale| Box::new(damaged::<TABLE>(scale)),
+        sweep: |round| Box::new(damaged::<TABLE>(round)),
         ..function(name, answers)
     }
 }

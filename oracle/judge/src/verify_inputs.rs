@@ -16,6 +16,7 @@ use crate::layout::{
 use crate::layout_inputs::{accepted, SCENE};
 use crate::map_inputs::set;
 use crate::maps::MAP_LEN;
+use crate::round::Round;
 use crate::verify::{verify, Arena};
 
 /// Document 01's examples of rows 18 to 22, with all that they carry, and what it says is accepted.
@@ -76,11 +77,11 @@ fn over(scene: Scene) -> Arena {
 
 /// Arenas that are damaged or encoded over old words, and the scenes of an encoding as they are.
 /// Most slips show in the first of them.
-pub fn found(scale: usize) -> impl Iterator<Item = Arena> {
+pub fn found(round: Round) -> impl Iterator<Item = Arena> {
     let over_old = |random: &mut Random| over(accepted_scene(random));
-    random(Random(51), 25_000 * scale, damaged_anywhere)
-        .chain(random(Random(52), 10_000 * scale, over_old))
-        .chain(changed_scenes().chain(scenes(scale)).map(Arena))
+    random(round.seeded(51), 25_000, damaged_anywhere)
+        .chain(random(round.seeded(52), 10_000, over_old))
+        .chain(round.once(changed_scenes).chain(scenes(round)).map(Arena))
 }
 
 /// Each l1 and l2 slot, each length of a map and each number of device blocks.
@@ -88,8 +89,8 @@ pub fn filled() -> impl Iterator<Item = Arena> {
     filled_scenes().map(over_zeros)
 }
 
-pub fn encoded(scale: usize) -> impl Iterator<Item = Arena> {
-    random(Random(53), 22_000 * scale, any_encoded)
+pub fn encoded(round: Round) -> impl Iterator<Item = Arena> {
+    random(round.seeded(53), 22_000, any_encoded)
 }
 
 /// The encoding of an accepted layout. Rows 13 and 14 may refuse to encode it.
@@ -124,8 +125,8 @@ fn raise_supers(scene: &mut Scene) {
 }
 
 /// Arenas in which a word of the table is damaged, or the entry of a leaf.
-pub fn damaged<const TABLE: usize>(scale: usize) -> impl Iterator<Item = Arena> {
-    random(Random(60 + TABLE as u64), 18_000 * scale, |random| {
+pub fn damaged<const TABLE: usize>(round: Round) -> impl Iterator<Item = Arena> {
+    random(round.seeded(60 + TABLE as u64), 18_000, |random| {
         let mut x = any_encoded(random);
         damage_table(random, &mut x, TABLE);
         x
@@ -196,8 +197,8 @@ pub fn unbacked_examples() -> impl Iterator<Item = Arena> {
     })
 }
 
-pub fn unbacked(scale: usize) -> impl Iterator<Item = Arena> {
-    random(Random(54), 10_000 * scale, any_unbacked)
+pub fn unbacked(round: Round) -> impl Iterator<Item = Arena> {
+    random(round.seeded(54), 10_000, any_unbacked)
 }
 
 fn any_unbacked(random: &mut Random) -> Arena {

@@ -27,27 +27,30 @@ pub struct Walk {
 pub const LAYER: Layer<Walk> = Layer {
     functions: &[
         Function {
+            call: "s2_walk",
             name: "walk",
             op: (),
             original: walk,
             boundary: || Box::new(example_walks()),
-            sweep: |scale| Box::new(damaged_walks(scale).chain(ringed_walks(scale))),
+            sweep: |round| Box::new(damaged_walks(round).chain(ringed_walks(round))),
             answers: ANSWERS,
             least: LEAST,
             recorded: false,
         },
         Function {
+            call: "s2_walk",
             name: "walk, encoded",
             op: (),
             original: walk,
             boundary: || Box::new(filled_walks().map(|x| x.walk)),
-            sweep: |scale| Box::new(encoded_walks(scale).map(|x| x.walk)),
+            sweep: |round| Box::new(encoded_walks(round).map(|x| x.walk)),
             answers: REACHED,
             least: LEAST,
             recorded: false,
         },
     ],
     faults: &[walk_faults::FAULTS, walk_word_faults::FAULTS],
+    wrapper_faults: &[],
 };
 
 const ANSWERS: &[Answer] = &[

@@ -11,6 +11,7 @@ use crate::inputs::{altered, random, Random};
 use crate::layout::{Fields, OUTPUT_LIMIT, PAGE, TABLES};
 use crate::layout_inputs::SCENE;
 use crate::reach::Encoding;
+use crate::round::Round;
 use crate::walk::{walk, Walk};
 use crate::walk_addresses::{addresses, alias, anywhere, through, LIMITS};
 
@@ -54,12 +55,12 @@ pub fn filled_walks() -> impl Iterator<Item = Encoding> {
         .flat_map(move |scene| encodings(&mut random, scene))
 }
 
-pub fn encoded_walks(scale: usize) -> impl Iterator<Item = Encoding> {
+pub fn encoded_walks(round: Round) -> impl Iterator<Item = Encoding> {
     let walks = |random: &mut Random| {
         let scene = zeroed(accepted_scene(random));
         encodings(random, scene)
     };
-    random(Random(42), 1_000 * scale, walks).flatten()
+    random(round.seeded(42), 1_000, walks).flatten()
 }
 
 fn zeroed(scene: Scene) -> Scene {
@@ -78,8 +79,8 @@ fn encodings(random: &mut Random, scene: Scene) -> Vec<Encoding> {
 }
 
 /// Walks that read a changed word of an arena, or what the encoding has left there.
-pub fn damaged_walks(scale: usize) -> impl Iterator<Item = Walk> {
-    random(Random(43), 20_000 * scale, damaged).flatten()
+pub fn damaged_walks(round: Round) -> impl Iterator<Item = Walk> {
+    random(round.seeded(43), 20_000, damaged).flatten()
 }
 
 fn damaged(random: &mut Random) -> Vec<Walk> {
@@ -102,8 +103,8 @@ fn damaged(random: &mut Random) -> Vec<Walk> {
 }
 
 /// Walks over arenas in which every word may name a table, or the table that it stands in.
-pub fn ringed_walks(scale: usize) -> impl Iterator<Item = Walk> {
-    random(Random(44), 5_000 * scale, ringed).flatten()
+pub fn ringed_walks(round: Round) -> impl Iterator<Item = Walk> {
+    random(round.seeded(44), 5_000, ringed).flatten()
 }
 
 fn ringed(random: &mut Random) -> Vec<Walk> {
