@@ -1,13 +1,17 @@
 # make run   proves the program and what it needs, builds it and runs it
 # make test  every check; its last line is rt's
+# make diff  the comparison with the Rust at scale
 # make fmt   lays out every file
 
 # The folder of the Rust originals, hv-core and hv-s2.
 export HV_SRC ?= ../shared/docs/src
 
+# What the random inputs of make diff are drawn from.
+SEED ?= 1
+
 JUDGE = cargo run --quiet --release --offline --manifest-path oracle/Cargo.toml -p judge --
 
-.PHONY: run test fmt header scenes board compare compare-long record libraries arm arm-short
+.PHONY: run test fmt header scenes board compare diff record libraries arm arm-short
 
 run:
 	@mkdir -p target
@@ -68,8 +72,9 @@ compare:
 	    echo "no Rust originals in $(HV_SRC): the comparison was not run"; \
 	fi
 
-compare-long: libraries
-	@$(JUDGE) compare --long
+# The same at scale, with other random inputs: ten million of each call or more.
+diff: libraries
+	@$(JUDGE) diff --seed $(SEED)
 
 # The Rust's answers: what the replays must print, and the dump of each scene.
 record: libraries

@@ -85,7 +85,7 @@ impl Line {
     pub fn speed(&self) -> String {
         let (rounds, inputs) = (self.rounds, self.inputs());
         let seconds = self.time.as_secs_f64();
-        let each = 1e6 * seconds / inputs as f64;
+        let each = 1e6 * seconds / inputs.max(1) as f64;
         let name = self.name;
         format!("{name}: {rounds} rounds, {inputs} inputs, {seconds:.1} s, {each:.3} us each")
     }
