@@ -1,6 +1,7 @@
 //! The numbers that are no function of the port: the answer is zero throughout.
 
 use crate::function::{Fault, Function, Layer};
+use crate::handed_words;
 use crate::inputs::{one, random, Random, NOTHING};
 use crate::port;
 
@@ -17,7 +18,7 @@ pub const LAYER: Layer = Layer {
         op: WRAPPED,
         alter: |x, answer| *answer = port::answer(WRAPPED % 256, x),
     }]],
-    wrapper_faults: &[],
+    wrapper_faults: handed_words::ABSENT,
 };
 
 /// Its low byte is the number of `decode_page`.

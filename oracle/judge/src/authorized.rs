@@ -10,6 +10,7 @@ use given_s2::check::{check_authorized_with, Violation};
 use crate::authorized_examples::small_granted;
 use crate::authorized_inputs::granted;
 use crate::function::{Answer, Function, Input, Layer};
+use crate::handed_maps;
 use crate::inputs::{words, Outcome};
 use crate::layout::{row, ACCEPTED, LEAST};
 use crate::maps::{self, too_long};
@@ -39,7 +40,7 @@ pub const LAYER: Layer<Granted> = Layer {
         recorded: false,
     }],
     faults: &[authorized_faults::FAULTS, grant_faults::FAULTS],
-    wrapper_faults: &[],
+    wrapper_faults: handed_maps::AUTHORIZED,
 };
 
 const ANSWERS: &[Answer] = &[

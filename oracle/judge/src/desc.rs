@@ -8,6 +8,7 @@ use hv_s2::arm64::{
 use hv_s2::leafmap::Perm;
 
 use crate::function::{Answer, Fault, Function, Layer};
+use crate::handed_words;
 use crate::inputs::{
     changed, many_codes, one, random, twice_changed, words, Random, Words, NOTHING,
 };
@@ -26,7 +27,7 @@ const DECODE_DEVICE_BLOCK: u32 = 10;
 pub const LAYER: Layer = Layer {
     functions: FUNCTIONS,
     faults: &[FAULTS],
-    wrapper_faults: &[],
+    wrapper_faults: handed_words::DESC,
 };
 
 const FUNCTIONS: &[Function] = &[

@@ -8,6 +8,7 @@ use std::iter::once;
 use crate::dump_inputs::{bad_texts, example_texts, mangled_texts, texts};
 use crate::encode::{encode, Encoded, TABLE_LEN};
 use crate::function::{answers, Answer, Function, Input, Layer, Reply};
+use crate::handed_texts;
 use crate::layout::row;
 use crate::port_dump;
 use crate::scene_text::scene;
@@ -66,7 +67,7 @@ pub const LAYER: Layer<Text> = Layer {
         reading_faults::FAULTS,
         number_faults::FAULTS,
     ],
-    wrapper_faults: &[],
+    wrapper_faults: handed_texts::FAULTS,
 };
 
 const ANSWERS: &[Answer] = answers!([("words", row::<0>)] 4 5 6 7 8 9 10 11 12 13 14);

@@ -11,6 +11,7 @@ use given_s2::arm64::{self, Tables};
 
 use crate::encode_inputs::{accepted_scenes, changed_scenes, filled_scenes, scenes};
 use crate::function::{answers, Answer, Function, Input, Layer, Reply};
+use crate::handed_layouts;
 use crate::inputs::{hex, words, Outcome};
 use crate::layout::{self, layout, pairs, row, Fields, ACCEPTED, LEAST, SUP_FRAMES, TABLES};
 use crate::maps;
@@ -74,7 +75,7 @@ pub const LAYER: Layer<Scene> = Layer {
         table_faults::FAULTS,
         leaf_faults::FAULTS,
     ],
-    wrapper_faults: &[],
+    wrapper_faults: handed_layouts::ENCODE,
 };
 
 const ANSWERS: &[Answer] = answers!([("accepted", row::<0>)] 1 2 3 4 5 6 7 8 9 10 11 12 13 14);

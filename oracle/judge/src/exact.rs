@@ -12,6 +12,7 @@ use given_s2::leafmap::Span;
 
 use crate::exact_inputs::{linked, small_linked};
 use crate::function::{Answer, Function, Input, Layer};
+use crate::handed_maps;
 use crate::inputs::{words, Outcome};
 use crate::layout::{row, ACCEPTED, LEAST};
 use crate::maps::{self, too_long};
@@ -51,7 +52,7 @@ pub const LAYER: Layer<Linked> = Layer {
         exact_faults::FAULTS,
         edge_record_faults::EXACT,
     ],
-    wrapper_faults: &[],
+    wrapper_faults: handed_maps::EXACT,
 };
 
 const fn of_base(call: &'static str, name: &'static str, form: Form) -> Function<Linked> {

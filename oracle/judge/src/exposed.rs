@@ -6,6 +6,7 @@
 use crate::exposed_faults::FAULTS;
 use crate::exposed_inputs::{around_windows, example_layouts};
 use crate::function::{answers, Answer, Function, Input, Layer};
+use crate::handed_layouts;
 use crate::inputs::{hex, words, Outcome};
 use crate::layout::{all_windows, validate, Fields, Window, ACCEPTED, LEAST, TABLES};
 use crate::layout_inputs::layouts;
@@ -28,7 +29,7 @@ pub const LAYER: Layer<Exposed> = Layer {
         recorded: false,
     }],
     faults: &[FAULTS],
-    wrapper_faults: &[],
+    wrapper_faults: handed_layouts::EXPOSED,
 };
 
 const ANSWERS: &[Answer] = answers!(

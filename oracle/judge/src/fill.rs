@@ -12,6 +12,7 @@ use given_s2::leafmap::{leaf_map_from_edges, span_of_table, MapError, Maps, Perm
 use crate::fill_examples::small_fillings;
 use crate::fill_inputs::fillings;
 use crate::function::{Answer, Function, Input, Layer, Reply};
+use crate::handed_maps;
 use crate::inputs::{hex, words, Outcome};
 use crate::layout::{row, ACCEPTED, LEAST};
 use crate::maps::{self, too_long};
@@ -48,7 +49,7 @@ pub const LAYER: Layer<Filling> = Layer {
         conflict_faults::FAULTS,
         edge_record_faults::FILL,
     ],
-    wrapper_faults: &[],
+    wrapper_faults: handed_maps::FILL,
 };
 
 const fn function(call: &'static str, name: &'static str, form: Form) -> Function<Filling> {

@@ -111,7 +111,12 @@ pub struct Fault<I: Input = Words> {
 
 /// The port's reply to the input after a change.
 pub fn with<I: Input<Op: Default> + Clone>(input: &I, change: impl FnOnce(&mut I)) -> I::Reply {
-    altered(input.clone(), change).port(I::Op::default())
+    with_op(input, I::Op::default(), change)
+}
+
+/// The same of any function.
+pub fn with_op<I: Input + Clone>(input: &I, op: I::Op, change: impl FnOnce(&mut I)) -> I::Reply {
+    altered(input.clone(), change).port(op)
 }
 
 pub struct Layer<I: Input = Words> {

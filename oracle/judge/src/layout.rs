@@ -8,6 +8,7 @@ use std::ops::Range;
 use given_s2::arm64::{EncodingViolation, Layout};
 
 use crate::function::{answers, Answer, Function, Input, Layer};
+use crate::handed_layouts;
 use crate::inputs::{hex, words, Outcome};
 use crate::layout_faults::FAULTS;
 use crate::layout_inputs::{examples, layouts};
@@ -61,7 +62,7 @@ pub const LAYER: Layer<Fields> = Layer {
         recorded: true,
     }],
     faults: &[FAULTS],
-    wrapper_faults: &[],
+    wrapper_faults: handed_layouts::VALIDATE,
 };
 
 const ANSWERS: &[Answer] = answers!([("accepted", row::<0>)] 4 5 6 7 8 9 10 11 12);

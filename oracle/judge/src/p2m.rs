@@ -5,6 +5,7 @@ use hv_core::p2m::{DomId, Mfn, PageType, PtLevel, System};
 use hv_s2::leafmap::{span_of_table, Span};
 
 use crate::function::{Answer, Fault, Function, Layer};
+use crate::handed_words;
 use crate::inputs::{altered, every, random, words, Random, Words, NOTHING};
 use crate::port;
 use crate::records::Frame;
@@ -21,7 +22,7 @@ pub const NOBODY: u64 = 1 << 16;
 pub const LAYER: Layer = Layer {
     functions: FUNCTIONS,
     faults: &[FAULTS],
-    wrapper_faults: &[],
+    wrapper_faults: handed_words::P2M,
 };
 
 const FUNCTIONS: &[Function] = &[

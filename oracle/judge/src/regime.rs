@@ -6,6 +6,7 @@ use hv_s2::arm64::{
 };
 
 use crate::function::{Answer, Fault, Function, Layer};
+use crate::handed_words;
 use crate::inputs::{altered, changed, every, one, random, words, Random, Words, NOTHING};
 use crate::port;
 use crate::round::Round;
@@ -23,7 +24,7 @@ const VTTBR_FIELDS: u32 = 18;
 pub const LAYER: Layer = Layer {
     functions: FUNCTIONS,
     faults: &[FAULTS],
-    wrapper_faults: &[],
+    wrapper_faults: handed_words::REGIME,
 };
 
 const FUNCTIONS: &[Function] = &[

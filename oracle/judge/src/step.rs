@@ -7,6 +7,7 @@ use std::fmt::{self, Display, Formatter};
 
 use crate::encode::{guard, target, Encoded, Scene};
 use crate::function::{answers, Answer, Function, Input, Layer};
+use crate::handed_layouts;
 use crate::inputs::{words, Outcome};
 use crate::layout::{row, ACCEPTED, LEAST};
 use crate::port_layouts;
@@ -63,7 +64,7 @@ pub const LAYER: Layer<Step> = Layer {
         },
     ],
     faults: &[step_row_faults::FAULTS, step_store_faults::FAULTS],
-    wrapper_faults: &[],
+    wrapper_faults: handed_layouts::STEP,
 };
 
 const ROWS: &[Answer] = answers!([("accepted", row::<0>)] 1 2 3 4 5 6 7 8 9 10 11 12 13 14 26);

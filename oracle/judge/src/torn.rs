@@ -8,6 +8,7 @@ use std::iter::once_with;
 use std::rc::Rc;
 
 use crate::function::{Function, Input, Layer, Reply};
+use crate::handed_walks;
 use crate::inputs::{hex, words, Outcome};
 use crate::layout::LEAST;
 use crate::port_layouts::step_in;
@@ -62,7 +63,7 @@ pub const LAYER: Layer<Torn> = Layer {
         recorded: false,
     }],
     faults: &[FAULTS],
-    wrapper_faults: &[],
+    wrapper_faults: handed_walks::TORN,
 };
 
 impl Input for Torn {

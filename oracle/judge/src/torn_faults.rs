@@ -1,7 +1,7 @@
 //! Slips of a port that updates, and of one that walks, as walks during an update must show them.
 
 use crate::function::Fault;
-use crate::inputs::{altered, Outcome};
+use crate::inputs::Outcome;
 use crate::port_layouts::step_in;
 use crate::port_walk;
 use crate::slips::{
@@ -65,23 +65,13 @@ pub const FAULTS: &[Fault<Torn>] = &[
         |x, answers| *answers = stepped(x, never_exempt),
     ),
     fault(
-        "torn-other-tables",
-        "the walk is handed the addresses of other tables",
-        |x, answers| {
-            *answers = walked(x, |walk| {
-                let other = altered(walk.clone(), |walk| walk.tables.rotate_left(1));
-                port_walk::walk(&other)
-            });
-        },
-    ),
-    fault(
         "torn-nothing",
         "every address reaches nothing",
         |x, answers| *answers = walked(x, |_| NOTHING),
     ),
 ];
 
-const fn fault(
+pub const fn fault(
     name: &'static str,
     slip: &'static str,
     alter: fn(&Torn, &mut Answers),
@@ -98,6 +88,6 @@ fn stepped(x: &Torn, step: Stepping) -> Answers {
     asked(x, step, port_walk::walk)
 }
 
-fn walked(x: &Torn, walk: fn(&Walk) -> Outcome) -> Answers {
+pub fn walked(x: &Torn, walk: fn(&Walk) -> Outcome) -> Answers {
     asked(x, step_in, walk)
 }

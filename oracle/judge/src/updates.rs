@@ -8,6 +8,7 @@ use std::rc::Rc;
 
 use crate::encode::{differing, target, ARENA_LEN};
 use crate::function::{answers, Answer, Function, Input, Layer, Reply};
+use crate::handed_layouts;
 use crate::inputs::{hex, words, Outcome};
 use crate::layout::{ACCEPTED, LEAST};
 use crate::port_layouts::step_in;
@@ -76,7 +77,7 @@ pub const LAYER: Layer<List> = Layer {
         recorded: false,
     }],
     faults: &[FAULTS],
-    wrapper_faults: &[],
+    wrapper_faults: handed_layouts::UPDATE,
 };
 
 const ANSWERS: &[Answer] = answers!(

@@ -82,7 +82,7 @@ pub const FAULTS: &[Fault<List>] = &[
     ),
 ];
 
-const fn fault(
+pub const fn fault(
     name: &'static str,
     slip: &'static str,
     alter: fn(&List, &mut Updated),

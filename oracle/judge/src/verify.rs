@@ -7,6 +7,7 @@ use given_s2::arm64::{verify_encoding, Decoded, EncodingViolation, TablesRef};
 
 use crate::encode::{rows_1_to_12, Scene};
 use crate::function::{answers, Answer, Function, Input, Layer};
+use crate::handed_layouts;
 use crate::inputs::{words, Outcome};
 use crate::layout::{code, layout, row, ACCEPTED, LEAST, TABLE_NAMES};
 use crate::maps;
@@ -56,7 +57,7 @@ pub const LAYER: Layer<Arena> = Layer {
         verify_leaf_faults::FAULTS,
         verify_value_faults::FAULTS,
     ],
-    wrapper_faults: &[],
+    wrapper_faults: handed_layouts::VERIFY,
 };
 
 const fn function(name: &'static str, answers: &'static [Answer]) -> Function<Arena> {

@@ -9,6 +9,7 @@ use given_s2::arm64::{self, Reach};
 
 use crate::encode::{row_1, TABLE_LEN};
 use crate::function::{Answer, Function, Input, Layer};
+use crate::handed_walks;
 use crate::inputs::{hex, words, Outcome};
 use crate::layout::{row, LEAST};
 use crate::maps;
@@ -50,7 +51,7 @@ pub const LAYER: Layer<Walk> = Layer {
         },
     ],
     faults: &[walk_faults::FAULTS, walk_word_faults::FAULTS],
-    wrapper_faults: &[],
+    wrapper_faults: handed_walks::WALK,
 };
 
 const ANSWERS: &[Answer] = &[
