@@ -102,22 +102,21 @@ impl Display for Table<'_> {
         calls.sort_by_key(|call| self.0.iter().position(|line| line.call == *call));
         calls.dedup();
         for call in calls {
-            let lines: Vec<&Line> = self.0.iter().filter(|line| line.call == call).collect();
-            lines.iter().try_for_each(|line| writeln!(f, "{line}"))?;
-            if lines.len() > 1 {
-                let inputs = lines.iter().map(|line| line.inputs()).sum();
-                let differences: u64 = lines.iter().map(|line| line.differences).sum();
-                writeln!(
-                    f,
-                    "| {call} | all | {} | {differences} | |",
-                    grouped(inputs)
-                )?;
+            let of_call = || self.0.iter().filter(|line| line.call == call);
+            of_call().try_for_each(|line| writeln!(f, "{line}"))?;
+            if of_call().count() > 1 {
+                writeln!(f, "| {call} | all | {} | |", summed(of_call()))?;
             }
         }
-        let inputs = self.0.iter().map(Line::inputs).sum();
-        let differences: u64 = self.0.iter().map(|line| line.differences).sum();
-        write!(f, "| all | | {} | {differences} | |", grouped(inputs))
+        write!(f, "| all | | {} | |", summed(self.0.iter()))
     }
+}
+
+/// The inputs and the differences of these functions.
+fn summed<'a>(lines: impl Iterator<Item = &'a Line> + Clone) -> String {
+    let inputs = lines.clone().map(Line::inputs).sum();
+    let differences: u64 = lines.map(|line| line.differences).sum();
+    format!("{} | {differences}", grouped(inputs))
 }
 
 impl Display for Line {
