@@ -14,6 +14,22 @@ pub fn compare_all(fault: Option<&str>) -> Result<(), String> {
     Ok(())
 }
 
+/// Looks for a difference in the libraries: in the first answers of every function, then in more.
+pub fn hunt() -> Result<(), String> {
+    for enough in [3_000, 100_000] {
+        for_all!(layers => hunt_in(layers, Round::first(enough))?);
+    }
+    println!("no difference found");
+    Ok(())
+}
+
+fn hunt_in<I: Input>(layers: &'static [Layer<I>], round: Round) -> Result<(), String> {
+    for function in functions(layers).filter(|function| function.call != "s2dump") {
+        compare(function, round, None).map_err(|found| found.to_string())?;
+    }
+    Ok(())
+}
+
 /// Compares the functions of these layers and counts their inputs.
 pub fn compare_layers<I: Input>(
     layers: &'static [Layer<I>],
@@ -41,6 +57,9 @@ pub fn compare<I: Input>(
     let fault = fault.filter(|fault| fault.op == function.op);
     let mut tally = Tally::new(function.name, function.answers);
     for input in function.inputs(round) {
+        if tally.inputs >= round.enough {
+            break;
+        }
         let original = (function.original)(&input);
         let unaltered = input.port(function.op);
         let altered = fault.map(|fault| {

@@ -110,7 +110,7 @@ use std::env;
 use std::process::ExitCode;
 
 const USAGE: &str = "usage: judge compare [--fault N] | \
-    diff [--seed S] [--inputs N] [--only FUNCTION] [--round R] | self-test | record DIR | \
+    diff [--seed S] [--inputs N] [--only FUNCTION] [--round R] | hunt | self-test | record DIR | \
     check-record DIR | scenes DIR | check-scenes DIR";
 
 fn main() -> ExitCode {
@@ -131,6 +131,7 @@ fn run(arguments: &[&str]) -> Result<(), String> {
         ["compare"] => compare::compare_all(None),
         ["compare", "--fault", number] => compare::compare_all(Some(fault(number).ok_or(USAGE)?)),
         ["diff", options @ ..] => diff::Wanted::parse(options).ok_or(USAGE)?.diff(),
+        ["hunt"] => compare::hunt(),
         ["self-test"] => self_test::self_test(),
         ["record", folder] => record::write(folder),
         ["check-record", folder] => record::check(folder),

@@ -6,10 +6,23 @@ use crate::inputs::Random;
 pub struct Round {
     /// What the seeds are drawn from. The first round has fixed ones.
     seed: Option<u64>,
+    /// How many answers are enough.
+    pub enough: u64,
 }
 
 impl Round {
-    pub const FIRST: Round = Round { seed: None };
+    pub const FIRST: Round = Round {
+        seed: None,
+        enough: u64::MAX,
+    };
+
+    /// The first round, up to so many answers of a function.
+    pub fn first(enough: u64) -> Self {
+        Round {
+            enough,
+            ..Round::FIRST
+        }
+    }
 
     /// The round of a function that has this number, from 0.
     pub fn new(seed: u64, function: &str, number: u64) -> Self {
@@ -18,7 +31,10 @@ impl Round {
         }
         let told = function.bytes().map(u64::from).chain([number]);
         let seed = told.fold(seed, |seed, next| Random(seed ^ next).word());
-        Round { seed: Some(seed) }
+        Round {
+            seed: Some(seed),
+            ..Round::FIRST
+        }
     }
 
     pub fn is_first(self) -> bool {
