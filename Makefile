@@ -1,7 +1,10 @@
-# make run   proves the program and what it needs, builds it and runs it
-# make test  every check; its last line is rt's
-# make diff  the comparison with the Rust at scale
-# make fmt   lays out every file
+# make run       proves the program and what it needs, builds it and runs it
+# make test      the gate; its last line is rt's
+# make diff      the comparison with the Rust at scale
+# make arm       an Arm machine as judge
+# make bench     times beside the Rust
+# make sabotage  faults in the compiled libraries
+# make fmt       lays out every file
 
 # The folder of the Rust originals, hv-core and hv-s2.
 export HV_SRC ?= ../shared/docs/src
@@ -11,7 +14,7 @@ SEED ?= 1
 
 JUDGE = cargo run --quiet --release --offline --manifest-path oracle/Cargo.toml -p judge --
 
-.PHONY: run test fmt header scenes board compare diff record libraries arm arm-short
+.PHONY: run test fmt header pages scenes board compare diff record arm arm-short sabotage libraries
 
 run:
 	@mkdir -p target
@@ -23,7 +26,7 @@ test:
 	@rt fmt --check
 	@report=$$(mktemp) && trap 'rm -f $$report' EXIT && \
 	    { rt ci >$$report 2>&1 || { cat $$report; exit 1; }; } && \
-	    $(MAKE) --no-print-directory header compare scenes && cat $$report
+	    $(MAKE) --no-print-directory --jobs=2 --output-sync compare arm-short board scenes header pages && cat $$report
 
 fmt:
 	@rt fmt
@@ -41,19 +44,19 @@ header:
 	@diff target/exported target/declared
 	@echo "header: $$(grep -c '(' target/declared) calls as they are exported"
 
+# What the pages say of files and counts.
+pages:
+	@tools/pages.sh
+
 # What the dump prints of each scene.
-scenes:
-	@mkdir -p target
-	@rt check s2dump >target/scenes.log 2>&1 || { cat target/scenes.log; exit 1; }
+scenes: libraries
 	@for scene in scenes/*.txt; do \
 	    target/bin/s2dump <$$scene | cmp - $${scene%.txt}.out || { echo "$$scene prints something else"; exit 1; }; \
 	done
 	@echo "scenes: $$(ls scenes/*.txt | wc -l) printed as they must be"
 
 # Board code in Rust and in C over the static library: the crate's tests, and what scene S prints in both.
-board:
-	@mkdir -p target
-	@{ rt check s2 && rt staticlib s2; } >target/board.log 2>&1 || { cat target/board.log; exit 1; }
+board: libraries
 	@$(CC) -std=c99 -Wall -Wextra -Werror -Iinclude board/example.c -Ltarget/staticlib -ls2 -o target/example
 	@target/example >target/example.out || { cat target/example.out; exit 1; }
 	@diff board/example.out target/example.out
@@ -64,9 +67,8 @@ board:
 	@echo "board: $$(grep -c '^test .* ok$$' target/board.log) tests of the crate, and scene S in Rust and C"
 
 # The port beside the Rust. Without the originals, rt ci still replays their recorded answers.
-compare:
+compare: libraries
 	@if [ -d "$(HV_SRC)/hv-s2" ]; then \
-	    $(MAKE) --no-print-directory libraries && \
 	    $(JUDGE) compare && $(JUDGE) self-test && $(JUDGE) check-record crates && $(JUDGE) check-scenes scenes; \
 	else \
 	    echo "no Rust originals in $(HV_SRC): the comparison was not run"; \
@@ -82,15 +84,19 @@ record: libraries
 	@$(JUDGE) scenes scenes
 
 # An Arm machine as judge: the library compiled for aarch64, on two machines that QEMU emulates.
-arm:
+arm: libraries
 	@arm/build.sh
 	@arm/run.sh 2000 1
 
-arm-short:
+arm-short: libraries
 	@arm/build.sh
 	@arm/run.sh 60 1
 
+# Every fault of the compiled libraries is noticed.
+sabotage: libraries
+	@sabotage/run.sh
+
 libraries:
 	@mkdir -p target
-	@{ rt check probe s2 s2dump && rt staticlib probe && rt staticlib s2; } \
-	    >target/staticlib.log 2>&1 || { cat target/staticlib.log; exit 1; }
+	@{ rt check s2dump && tools/module.sh probe && tools/module.sh s2; } \
+	    >target/libraries.log 2>&1 || { cat target/libraries.log; exit 1; }

@@ -1,25 +1,25 @@
 #!/bin/sh
-# Builds target/arm/judge.elf: the proved library for aarch64, from the module that the toolchain itself compiles, and the program at EL2.
-# Beside the usual tools it needs only the kit's clang and ld.lld. Nothing of this compilation is proved.
+# Builds target/arm/judge.elf: the proved library for aarch64, from the module that the toolchain itself compiles (tools/module.sh), and the program
+# at EL2, by the toolchain's clang and ld.lld. Nothing of this compilation is proved.
 set -eu
 cd "$(dirname "$0")/.."
 out=target/arm
 rm -rf $out
 mkdir -p $out
-bin=$(tools/module.sh s2)
+bin=target/module/bin
 
 # The module names a machine in these places alone.
 sed -e '/^target /d' -e 's/ "target-cpu"="[^"]*"//' target/module/s2.ll >$out/s2.ll
 
 arm="--no-default-config --target=aarch64-none-elf -march=armv8-a -mgeneral-regs-only -mstrict-align -ffreestanding -ffunction-sections"
-"$bin/clang" $arm -O3 -Werror -Wno-override-module -c -x ir $out/s2.ll -o $out/s2.o
+$bin/clang $arm -O3 -Werror -Wno-override-module -c -x ir $out/s2.ll -o $out/s2.o
 headers=$(${CC:-cc} -print-file-name=include)
 for source in arm/*.c; do
-    "$bin/clang" $arm -O2 -std=c11 -Wall -Wextra -Werror -fno-builtin -isystem "$headers" -Iinclude -c "$source" \
+    $bin/clang $arm -O2 -std=c11 -Wall -Wextra -Werror -fno-builtin -isystem "$headers" -Iinclude -c "$source" \
         -o "$out/$(basename "$source" .c).o"
 done
-"$bin/clang" $arm -c arm/start.S -o $out/start.o
-"$bin/ld.lld" --gc-sections -T arm/link.ld $out/*.o -o $out/judge.elf
+$bin/clang $arm -c arm/start.S -o $out/start.o
+$bin/ld.lld --gc-sections -T arm/link.ld $out/*.o -o $out/judge.elf
 
 # The same calls by the archive of the machine that builds.
 ${CC:-cc} -std=c11 -O2 -Wall -Wextra -Werror -Iinclude -Iarm arm/here/here.c arm/words.c arm/scene.c arm/random.c \

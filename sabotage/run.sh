@@ -4,16 +4,16 @@
 set -eu
 cd "$(dirname "$0")/.."
 out=target/sabotage
+bin=target/module/bin
 rm -rf $out
 mkdir -p $out
 ${CC:-cc} -O2 -Wall -Wextra -Werror -c sabotage/fault.c -o $out/fault.o
 : >$out/list
 for crate in s2 probe; do
-    bin=$(tools/module.sh $crate)
     awk -v list=$out/$crate.list -v before="$(wc -l <$out/list)" -f sabotage/faults.awk target/module/$crate.ll >$out/$crate.ll
     cat $out/$crate.list >>$out/list
-    "$bin/clang" --no-default-config -O2 -fPIC -c -x ir $out/$crate.ll -o $out/$crate.o
-    "$bin/llvm-ar" rcs $out/lib$crate.a $out/$crate.o $out/fault.o
+    $bin/clang --no-default-config -O2 -fPIC -c -x ir $out/$crate.ll -o $out/$crate.o
+    $bin/llvm-ar rcs $out/lib$crate.a $out/$crate.o $out/fault.o
 done
 PROBE_DIR=$out CARGO_TARGET_DIR=$out/oracle cargo build --quiet --release --offline --manifest-path oracle/Cargo.toml -p judge
 

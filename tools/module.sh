@@ -1,6 +1,6 @@
 #!/bin/sh
-# module.sh CRATE: proves a library, writes its archive as 'rt staticlib' does, and keeps the module that the toolchain hands to its clang:
-# target/module/CRATE.ll. Prints the folder of the toolchain's clang.
+# module.sh CRATE: proves a library and writes its archive, by 'rt staticlib', and keeps the module that the toolchain hands to its clang:
+# target/module/CRATE.ll. The folder target/module/bin has the toolchain's programs.
 set -eu
 crate=$1
 cd "$(dirname "$0")/.."
@@ -26,6 +26,8 @@ link_all ""
 link_all "${tools%toolchain}"
 link_all "$tools/"
 link_all "$tools/bin/"
-RATTLE_HOME=$kit rt staticlib "$crate" >"$out/$crate.log" 2>&1 || { cat "$out/$crate.log" >&2; exit 1; }
+rt check "$crate"
+RATTLE_HOME=$kit rt staticlib "$crate"
 "$clang" --no-default-config -x ir "$out/$crate.bc" -S -emit-llvm -O0 -Xclang -disable-llvm-passes -o "$out/$crate.ll"
-echo "${clang%/clang}"
+rm -f "$out/bin"
+ln -s "${clang%/clang}" "$out/bin"

@@ -1,0 +1,32 @@
+#!/bin/sh
+# Holds what the pages say to the files: every path is there; the definitions that must be believed, the edits and the described calls are as many.
+set -eu
+cd "$(dirname "$0")/.."
+pages="README.md NOTICE docs/*.md oracle/README.md arm/README.md board/README.md"
+
+# says PAGE TEXT: the page has the text.
+says() {
+    grep -qF -- "$2" "$1" || { echo "$1 does not say: $2"; exit 1; }
+}
+
+grep -ohP '(?<![/.])\b(crates|oracle|arm|board|sabotage|tools|scenes|docs|include)/[A-Za-z0-9_./-]*[A-Za-z0-9]' $pages | sort -u | grep -v NAME |
+    while read -r path; do
+        [ -e "$path" ] || { echo "no $path, which a page names"; exit 1; }
+    done
+
+believed() {
+    awk -f tools/believed.awk "$@" | tail -1
+}
+calls=crates/s2/specs/Answers.antt demand2=crates/walks/specs/Demand2.antt demand3=crates/updates/specs/Demand3.antt
+for statement in $calls $demand2 $demand3; do
+    says docs/TRUST.md "$(believed $statement)"
+done
+says docs/TRUST.md "$(believed $calls $demand2 $demand3)"
+
+says docs/SABOTAGE.md "There are $(ls crates/*/must-fail/*.edit | wc -l), in $(ls -d crates/*/must-fail | wc -l) crates"
+
+# Each exported call has a contract, over `values` at exit; the step assigns to the arena once.
+awk '/pub extern "C" fn/ { calls++; open = 1 } /ensures/ && open { described += /values \.exit/; open = 0 }
+    END { if (calls != described) { print "an exported call is not described"; exit 1 } }' crates/s2/src/lib.rt
+[ "$(grep -c 'arena\[.*\] = ' crates/update/src/lib.rt)" = 1 ] || { echo "the step does not have one assignment to the arena"; exit 1; }
+echo "pages: paths and counts are as they say"
