@@ -13,8 +13,9 @@ export HV_SRC ?= ../shared/docs/src
 SEED ?= 1
 
 JUDGE = cargo run --quiet --release --offline --manifest-path oracle/Cargo.toml -p judge --
+TIMED = cargo run --quiet --profile timed --offline --manifest-path oracle/Cargo.toml -p judge --
 
-.PHONY: run test fmt header pages scenes board compare diff record arm arm-short sabotage libraries
+.PHONY: run test fmt header pages scenes board compare diff record bench arm arm-short sabotage libraries
 
 run:
 	@mkdir -p target
@@ -77,6 +78,10 @@ compare: libraries
 # The same at scale, with other random inputs: ten million of each call or more.
 diff: libraries
 	@$(JUDGE) diff --seed $(SEED)
+
+# Times of the port and of the Rust, each without overflow checks.
+bench: libraries
+	@$(TIMED) bench
 
 # The Rust's answers: what the replays must print, and the dump of each scene.
 record: libraries

@@ -39,6 +39,8 @@ pub struct Encoded {
 pub const TABLE_LEN: usize = 512;
 pub const ARENA_LEN: usize = 3_072;
 
+pub type Table = [u64; TABLE_LEN];
+
 /// The words of a table, which has document 01's number, in an arena.
 pub fn table(number: usize) -> Range<usize> {
     TABLE_LEN * (number - 1)..TABLE_LEN * number
@@ -134,23 +136,30 @@ pub fn target(scene: &Scene) -> Vec<u64> {
 }
 
 fn emitted_over(mut arena: Vec<u64>, scene: &Scene) -> Vec<u64> {
-    let ([l1, l2_code, l2_data, l3_data, l2_sup, l2_dev], []) = arena.as_chunks_mut() else {
+    let (all, []) = arena.as_chunks_mut() else {
         panic!("row 1 refuses any other arena");
     };
+    let all = all.try_into().expect("row 1 refuses any other arena");
     arm64::encode(
         &maps::entries(&scene.base),
         &maps::entries(&scene.sup),
         &layout(&scene.fields),
-        Tables {
-            l1,
-            l2_code,
-            l2_data,
-            l3_data,
-            l2_sup,
-            l2_dev,
-        },
+        tables(all),
     );
     arena
+}
+
+/// The tables of an arena for the original, to be stored into.
+pub fn tables(arena: &mut [Table; TABLES.end]) -> Tables<'_> {
+    let [l1, l2_code, l2_data, l3_data, l2_sup, l2_dev] = arena;
+    Tables {
+        l1,
+        l2_code,
+        l2_data,
+        l3_data,
+        l2_sup,
+        l2_dev,
+    }
 }
 
 /// The row that refuses the scene.

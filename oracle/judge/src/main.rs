@@ -8,6 +8,7 @@ mod authorized_faults;
 mod authorized_inputs;
 mod bad_line_faults;
 mod bad_lines;
+mod bench;
 mod compare;
 mod conflict_faults;
 mod damage;
@@ -110,8 +111,8 @@ use std::env;
 use std::process::ExitCode;
 
 const USAGE: &str = "usage: judge compare [--fault N] | \
-    diff [--seed S] [--inputs N] [--only FUNCTION] [--round R] | hunt | self-test | record DIR | \
-    check-record DIR | scenes DIR | check-scenes DIR";
+    diff [--seed S] [--inputs N] [--only FUNCTION] [--round R] | hunt | bench | self-test | \
+    record DIR | check-record DIR | scenes DIR | check-scenes DIR";
 
 fn main() -> ExitCode {
     undefined::quieten();
@@ -132,6 +133,7 @@ fn run(arguments: &[&str]) -> Result<(), String> {
         ["compare", "--fault", number] => compare::compare_all(Some(fault(number).ok_or(USAGE)?)),
         ["diff", options @ ..] => diff::Wanted::parse(options).ok_or(USAGE)?.diff(),
         ["hunt"] => compare::hunt(),
+        ["bench"] => bench::bench(),
         ["self-test"] => self_test::self_test(),
         ["record", folder] => record::write(folder),
         ["check-record", folder] => record::check(folder),

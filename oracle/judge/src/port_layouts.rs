@@ -11,7 +11,7 @@ use crate::step::Step;
 macro_rules! declare_with_layout {
     ($($function:ident([$($before:ident: $first:ty),*], $($after:ident: $last:ty),+);)*) => {
         extern "C" {
-            $(fn $function(
+            $(pub fn $function(
                 $($before: $first,)*
                 l1_pa: u64,
                 l2_code_pa: u64,
@@ -106,6 +106,8 @@ macro_rules! with_scene {
         )
     }};
 }
+
+pub(crate) use {with_layout, with_scene};
 
 pub fn encode(scene: &Scene) -> Encoded {
     // SAFETY: the arena and each map are as long as is said, and eight values are written.

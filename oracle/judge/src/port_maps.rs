@@ -12,7 +12,7 @@ use crate::port::outcome;
 use crate::records::{Edge, EdgeRecord, Form, Frame, Grant};
 
 extern "C" {
-    fn s2_fill(
+    pub fn s2_fill(
         edges: *const Edge,
         edge_count: usize,
         frames: *const Frame,
@@ -25,7 +25,7 @@ extern "C" {
         values: *mut u64,
     ) -> u32;
 
-    fn s2_fill_edges(
+    pub fn s2_fill_edges(
         edges: *const EdgeRecord,
         edge_count: usize,
         frames: *const Frame,
@@ -38,7 +38,7 @@ extern "C" {
         values: *mut u64,
     ) -> u32;
 
-    fn s2_authorized(
+    pub fn s2_authorized(
         dom: u16,
         map: *const u8,
         map_len: usize,
@@ -49,7 +49,7 @@ extern "C" {
         values: *mut u64,
     ) -> u32;
 
-    fn s2_exact(
+    pub fn s2_exact(
         dom: u16,
         map: *const u8,
         map_len: usize,
@@ -61,7 +61,7 @@ extern "C" {
         values: *mut u64,
     ) -> u32;
 
-    fn s2_exact_edges(
+    pub fn s2_exact_edges(
         dom: u16,
         map: *const u8,
         map_len: usize,
@@ -75,7 +75,7 @@ extern "C" {
 }
 
 /// A call that fills, with edges of one form.
-type Fill<E> = unsafe extern "C" fn(
+pub type Fill<E> = unsafe extern "C" fn(
     *const E,
     usize,
     *const Frame,
@@ -89,7 +89,7 @@ type Fill<E> = unsafe extern "C" fn(
 ) -> u32;
 
 /// A call that checks a map against edges of one form.
-type Exact<E> = unsafe extern "C" fn(
+pub type Exact<E> = unsafe extern "C" fn(
     u16,
     *const u8,
     usize,

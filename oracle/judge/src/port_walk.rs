@@ -7,7 +7,7 @@ use crate::port::{outcome, UNWRITTEN};
 use crate::walk::Walk;
 
 extern "C" {
-    fn s2_walk(
+    pub fn s2_walk(
         arena: *const u64,
         arena_len: usize,
         l1_pa: u64,

@@ -5,11 +5,11 @@
 
 use given_s2::arm64::{verify_encoding, Decoded, EncodingViolation, TablesRef};
 
-use crate::encode::{rows_1_to_12, Scene};
+use crate::encode::{rows_1_to_12, Scene, Table};
 use crate::function::{answers, Answer, Function, Input, Layer};
 use crate::handed_layouts;
 use crate::inputs::{words, Outcome};
-use crate::layout::{code, layout, row, ACCEPTED, LEAST, TABLE_NAMES};
+use crate::layout::{code, layout, row, ACCEPTED, LEAST, TABLES, TABLE_NAMES};
 use crate::maps;
 use crate::port_layouts;
 use crate::verify_inputs::{
@@ -170,23 +170,30 @@ pub fn verify(x: &Arena) -> Outcome {
 }
 
 pub fn original(scene: &Scene) -> Outcome {
-    let ([l1, l2_code, l2_data, l3_data, l2_sup, l2_dev], []) = scene.arena.as_chunks() else {
+    let (all, []) = scene.arena.as_chunks() else {
         panic!("row 1 refuses any other arena");
     };
+    let all = all.try_into().expect("row 1 refuses any other arena");
     let answer = verify_encoding(
         &maps::entries(&scene.base),
         &maps::entries(&scene.sup),
         &layout(&scene.fields),
-        TablesRef {
-            l1,
-            l2_code,
-            l2_data,
-            l3_data,
-            l2_sup,
-            l2_dev,
-        },
+        tables(all),
     );
     answer.map_or_else(refusal, |()| ACCEPTED)
+}
+
+/// The tables of an arena for the original, to be read.
+pub fn tables(arena: &[Table; TABLES.end]) -> TablesRef<'_> {
+    let [l1, l2_code, l2_data, l3_data, l2_sup, l2_dev] = arena;
+    TablesRef {
+        l1,
+        l2_code,
+        l2_data,
+        l3_data,
+        l2_sup,
+        l2_dev,
+    }
 }
 
 fn refusal(violation: EncodingViolation) -> Outcome {
