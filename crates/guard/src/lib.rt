@@ -3,8 +3,11 @@ use layout::Layout;
 use layout::Table;
 use refusal::Refusal;
 use refusal::Verdict;
+ghost use Prim.Native.Nat.{ℕ};
+ghost use mathlib.Core.Bool.{true};
+ghost use mathlib.Core.List.{[]};
 ghost use mathlib.Core.Path.{_≡_};
-ghost use lib.ListN.{drop};
+ghost use lib.ListN.{drop, getD};
 ghost use Rattle.layout.specs.Size.{outputLimit};
 ghost use Rattle.refusal.specs.Outcome.{outcomeOf};
 ghost use Rattle.refusal.specs.Table.{first, each, eachFrom, pairs};
@@ -76,10 +79,13 @@ fn distinct_from(t: Table, ts: [Table; Layout::TABLES], from: usize) -> Verdict
     Verdict::Accepted
 }
 
-// Row 14. No memory is reserved for such a super.
+// Row 14. No memory is reserved for such a super. The pass that finds no position has no branch to take, and most maps need no other.
 fn backed(sup_frames: u64, sup: &[u8]) -> Verdict
     ensures { λ r. ⌜ outcomeOf r ≡ first (eachFrom (row14 «sup_frames») 0 (now (sup .entry))) ⌝ }
 {
+    if unmapped_from(sup_frames, sup) {
+        return Verdict::Accepted;
+    }
     for i in 0..sup.len() {
         if sup[i] != 0 {
             if sup_frames <= i as u64 {
@@ -88,4 +94,15 @@ fn backed(sup_frames: u64, sup: &[u8]) -> Verdict
         }
     }
     Verdict::Accepted
+}
+
+// Whether no super is mapped at or past sup_frames.
+fn unmapped_from(sup_frames: u64, sup: &[u8]) -> bool
+    ensures { λ r. ⌜ (r ≡ true → (p : ℕ) → row14 «sup_frames» p (getD (now (sup .entry)) p 0) ≡ []) ⌝ }
+{
+    if sup.len() as u64 <= sup_frames {
+        return true;
+    }
+    let from = sup_frames as usize;
+    lent::largest(&sup[from..]) == 0
 }

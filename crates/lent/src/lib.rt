@@ -47,7 +47,8 @@ pub fn map_codes(code: u64, map: &[u8]) -> Verdict
     Verdict::Accepted
 }
 
-fn largest(map: &[u8]) -> u8
+// The largest byte of a map, 0 where it has none.
+pub fn largest(map: &[u8]) -> u8
     ensures { λ r. ⌜ ((i : ℕ) → getD (now (map .entry)) i 0 ≤ r) ⌝ }
 {
     let mut most = 0;
