@@ -1,4 +1,4 @@
--- `same_entries` meets its contract: the first row is that of the entries from m on.
+-- `same_entries` meets its contract: no entry differs, or the first row is that of the entries from m on.
 use Prim.Native.Nat.{_+_, _-_}
 use mathlib.Core.List.{_++_}
 use mathlib.Core.Path.{_≡_, refl, sym, _∙_}
@@ -7,6 +7,7 @@ use lib.ListN.{getD, drop}
 use borrow.Author.Needs.{needs}
 use borrow.Author.Tests.{eq-eqb, ne-eqb}
 use denote.Ref.{now}
+use Rattle.refusal.proofs.None.{accept, from-nowhere}
 use Rattle.refusal.proofs.Parts.{from-at, from-end}
 use Rattle.refusal.specs.Table.{first, eachFrom}
 use Rattle.exact.specs.Exact.{row25}
@@ -23,9 +24,9 @@ abbrev μ-loop : tie.MeasureT-loop
 
 -- the rows from m on: that of its entry, and those after it
 here :
-    (v : tie.After-shared-slice-known2 Inv-loop μ-loop) →
+    (v : tie.After-shared-slice-known4 Inv-loop μ-loop) →
     let h = v .before .before .before in
-    let a = h .before .args in
+    let a = h .before .before .before .before .before .args in
     let rows = row25 (a .dom) (λ k. getD (now (a .wanted)) k 0) in
     let m = h .loop .m in
     eachFrom rows m (drop m (now (a .leaves)))
@@ -33,8 +34,20 @@ here :
 here v =
     let turn = v .before .before in
     let h = turn .before in
-    let a = h .before .args in
+    let a = h .before .before .before .before .before .args in
     from-at (now (a .leaves)) (h .loop .m) 0 (turn .loop-test .taken) (row25 (a .dom) (λ k. getD (now (a .wanted)) k 0))
+
+all-same-requires : tie.Need-all-same-requires Inv-loop μ-loop
+all-same-requires c κs = search needs
+
+returns : tie.Need-returns Inv-loop μ-loop
+unfolding row25
+returns c =
+    let v = c .before in
+    let a = v .before .before .before .args in
+    let rows = row25 (a .dom) (λ k. getD (now (a .wanted)) k 0) in
+    let same = v .all-same .ensures (c .if1 .taken) in
+    sym (accept _ (from-nowhere rows (now (a .leaves)) 0 (λ m inside. rw (eq-eqb _ _ (same m inside)))))
 
 loop-holds : tie.Need-loop-holds Inv-loop μ-loop
 loop-holds c = refl
@@ -45,17 +58,17 @@ shared-slice-read-mapped c = search needs
 shared-slice-read-expected : tie.Need-shared-slice-read-expected Inv-loop μ-loop
 shared-slice-read-expected c = search needs
 
-cast-t14 : tie.Need-cast-t14 Inv-loop μ-loop
-cast-t14 c = let v = c .before .before in omega (arith, v .shared-slice-known .given (v .before .before .loop .m))
-
 cast-t15 : tie.Need-cast-t15 Inv-loop μ-loop
-cast-t15 c = let v = c .before in omega (arith, v .shared-slice-known2 .given (v .before .before .before .loop .m))
+cast-t15 c = let v = c .before .before in omega (arith, v .shared-slice-known3 .given (v .before .before .loop .m))
 
-returns : tie.Need-returns Inv-loop μ-loop
+cast-t16 : tie.Need-cast-t16 Inv-loop μ-loop
+cast-t16 c = let v = c .before in omega (arith, v .shared-slice-known4 .given (v .before .before .before .loop .m))
+
+returns-2 : tie.Need-returns-2 Inv-loop μ-loop
 unfolding row25 first
-returns c =
+returns-2 c =
     let v = c .before in
-    rw (v .before .before .before .loop .inv, here v, ne-eqb _ _ (c .if1 .taken))
+    rw (v .before .before .before .loop .inv, here v, ne-eqb _ _ (c .if2 .taken))
 
 add-m : tie.Need-add-m Inv-loop μ-loop
 add-m c = search needs
@@ -67,12 +80,12 @@ loop-again : tie.Need-loop-again Inv-loop μ-loop
 unfolding row25
 loop-again c =
     let v = c .before in
-    rw (v .before .before .before .loop .inv, here v, eq-eqb _ _ (c .if1 .left))
+    rw (v .before .before .before .loop .inv, here v, eq-eqb _ _ (c .if2 .left))
 
-returns-2 : tie.Need-returns-2 Inv-loop μ-loop
-returns-2 c =
+returns-3 : tie.Need-returns-3 Inv-loop μ-loop
+returns-3 c =
     let h = c .before in
-    let a = h .before .args in
+    let a = h .before .before .before .before .before .args in
     from-end (now (a .leaves)) (h .loop .m) (c .loop-test .left) (row25 (a .dom) (λ k. getD (now (a .wanted)) k 0))
     ∙ sym (h .loop .inv)
 
@@ -82,13 +95,15 @@ same-entries-spec =
     (tie.spec
     Inv-loop
     μ-loop
+    all-same-requires
+    returns
     loop-holds
     shared-slice-read-mapped
     shared-slice-read-expected
-    cast-t14
     cast-t15
-    returns
+    cast-t16
+    returns-2
     add-m
     loop-less
     loop-again
-    returns-2)
+    returns-3)
