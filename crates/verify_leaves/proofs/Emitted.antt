@@ -24,10 +24,8 @@ page-none t j d m e x q = no-leaf-row t j d m _ _ (ap decodedPage q ∙ page-rea
 
 pub block-none :
     (t j d m e x : ℕ) (exempt : Bool) →
-    d ≡ leafFor e (blockTo x exempt) →
-    accepted ≡ first (leafRow t j d m (decodedBlock d) (wantedLeaf e (blockAddress x) exempt))
-unfolding first
-block-none t j d m e x exempt q = rw (no-leaf-row t j d m _ _ (ap decodedBlock q ∙ block-read e x exempt))
+    d ≡ leafFor e (blockTo x exempt) → leafRow t j d m (decodedBlock d) (wantedLeaf e (blockAddress x) exempt) ≡ []
+block-none t j d m e x exempt q = no-leaf-row t j d m _ _ (ap decodedBlock q ∙ block-read e x exempt)
 
 device-read :
     (inside : Bool) (x : ℕ) →

@@ -3,14 +3,15 @@ use decode::DecodedBlock;
 use decode::DecodedDevice;
 use layout::Layout;
 use refusal::Verdict;
-ghost use Prim.Native.Nat.{ℕ, _+_, _≤_, _<_};
+ghost use Prim.Native.Nat.{ℕ, _+_, _*_, _≤_, _<_};
 ghost use mathlib.Core.Bool.{_&&_};
 ghost use mathlib.Core.List.{[]};
 ghost use mathlib.Core.Path.{_≡_};
 ghost use lib.Dec.{leb, ltb};
 ghost use Rattle.arena.specs.Word.{deviceTo};
 ghost use Rattle.fields.specs.Named.{pick};
-ghost use Rattle.layout.specs.Size.{entries};
+ghost use Rattle.layout.specs.Size.{entries, block};
+ghost use Rattle.layout.specs.Window.{l2Slot};
 ghost use Rattle.refusal.specs.Outcome.{outcomeOf};
 ghost use Rattle.refusal.specs.Table.{first, each};
 ghost use Rattle.verify_rows.specs.Verifying.{indices, baseRow, superRow, covered, wantedBlock, deviceRow};
@@ -57,7 +58,7 @@ fn base_frame(arena: &[u64], base: &[u8], pa: u64, m: usize) -> Verdict
 pub fn verify_super(arena: &[u64], sup: &[u8], ipa: u64, pa: u64, exempt: bool) -> Verdict
     ensures { λ r. ⌜ outcomeOf r ≡ first (each (superRow (now (arena .entry)) (now (sup .entry)) ipa pa exempt) indices) ⌝ }
 {
-    for m in 0..Layout::ENTRIES {
+    for m in past_blocks(arena, sup, ipa, pa, exempt)..Layout::ENTRIES {
         let verdict = super_frame(arena, sup, ipa, pa, exempt, m);
         let Verdict::Accepted = verdict else {
             return verdict;
@@ -66,20 +67,38 @@ pub fn verify_super(arena: &[u64], sup: &[u8], ipa: u64, pa: u64, exempt: bool) 
     Verdict::Accepted
 }
 
-// A super stands at its own slot, not at its frame number.
+// How many supers, from the first on, have the emitted words: the same as `past_pages`.
+fn past_blocks(arena: &[u64], sup: &[u8], ipa: u64, pa: u64, exempt: bool) -> usize
+    ensures { λ r. ⌜ (r ≤ entries) × ((k : ℕ) → k < r → superRow (now (arena .entry)) (now (sup .entry)) ipa pa exempt k ≡ []) ⌝ }
+{
+    for m in 0..Layout::ENTRIES {
+        let index = super_index(ipa, m);
+        let d = verify_word::word_at(arena, 4 * Layout::ENTRIES + index as usize);
+        let entry = lent::entry_at(sup, m);
+        if d != arena::block_word(pa, m as u32, exempt, entry) {
+            return m;
+        }
+    }
+    Layout::ENTRIES
+}
+
 fn super_frame(arena: &[u64], sup: &[u8], ipa: u64, pa: u64, exempt: bool, m: usize) -> Verdict
     requires { ⌜ m < entries ⌝ }
     ensures { λ r. ⌜ outcomeOf r ≡ first (superRow (now (arena .entry)) (now (sup .entry)) ipa pa exempt m) ⌝ }
 {
-    let index = (ipa / Layout::BLOCK_SIZE + m as u64) % 512;
+    let index = super_index(ipa, m);
     let d = verify_word::word_at(arena, 4 * Layout::ENTRIES + index as usize);
     let entry = lent::entry_at(sup, m);
-    // Most words are the emitted one, and need no decoding.
-    if d == arena::block_word(pa, m as u32, exempt, entry) {
-        return Verdict::Accepted;
-    }
     let want = verify_word::wanted_leaf(entry, arena::block_address(pa, m as u32), exempt);
     verify_word::leaf(5, index, d, m as u64, decode::decode_block(d), want)
+}
+
+// A super stands at its own slot, not at its frame number.
+fn super_index(ipa: u64, m: usize) -> u64
+    requires { ⌜ m < entries ⌝ }
+    ensures { λ r. ⌜ r ≡ l2Slot (ipa + m * block) ⌝ }
+{
+    (ipa / Layout::BLOCK_SIZE + m as u64) % 512
 }
 
 // Table 6.

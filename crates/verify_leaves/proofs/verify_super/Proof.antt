@@ -1,12 +1,14 @@
 -- `verify_super` meets its contract: the first row is that of the frames from m on.
 use Prim.Native.Nat.{_-_}
-use mathlib.Core.Path.{_≡_, refl, sym, _∙_}
+use mathlib.Core.Path.{_≡_, sym, ap, _∙_}
+use native.Mathlib.Omega.{arith}
 use borrow.Author.Needs.{needs}
+use denote.Ref.{now}
 use Rattle.layout.specs.Size.{entries}
 use Rattle.refusal.proofs.First.{next, stop}
 use Rattle.refusal.specs.Table.{first, each}
 use Rattle.verify_rows.specs.Verifying.{indices, superRow}
-use Rattle.verify_rows.proofs.Range.{rest, rest-at, rest-end}
+use Rattle.verify_rows.proofs.Range.{rest, rest-at, rest-end, passed}
 use Rattle.verify_leaves.proofs.verify_super.Statement.{statement}
 use Rattle.verify_leaves.proofs.verify_super.Tie as tie
 
@@ -16,8 +18,18 @@ Inv-loop arena sup ipa pa exempt m₀ m = first (each (superRow arena sup ipa pa
 abbrev μ-loop : tie.MeasureT-loop
 μ-loop arena sup ipa pa exempt m₀ m = entries - m
 
+past-blocks-requires : tie.Need-past-blocks-requires Inv-loop μ-loop
+past-blocks-requires c κs = search needs
+
 loop-holds : tie.Need-loop-holds Inv-loop μ-loop
-loop-holds c = refl
+loop-holds c =
+    let a = c .before .before .before .args in
+    let past = c .past-blocks .ensures in
+    ap first
+    (passed (superRow (now (a .arena)) (now (a .sup)) (a .ipa) (a .pa) (a .exempt)) entries 0 (c .past-blocks .result)
+    (omega arith)
+    (past .0)
+    (λ k lt le. past .1 k lt))
 
 super-frame-requires : tie.Need-super-frame-requires Inv-loop μ-loop
 super-frame-requires c κs = search needs
@@ -58,6 +70,7 @@ verify-super-spec =
     (tie.spec
     Inv-loop
     μ-loop
+    past-blocks-requires
     loop-holds
     super-frame-requires
     enum-told
