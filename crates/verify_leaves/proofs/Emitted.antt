@@ -12,7 +12,6 @@ use Rattle.decode.specs.Decoded.{decodedPage, decodedBlock, decodedDevice}
 use Rattle.decode.specs.declared.DecodedBlock.the-variants.{Device, Nothing}
 use Rattle.desc.specs.Descriptor.{pageAddress, blockAddress}
 use Rattle.fields.specs.Named.{pick}
-use Rattle.refusal.specs.Table.{accepted, first}
 use Rattle.verify_rows.proofs.Read.{held-block, page-read, block-read, no-leaf-row, no-block-row}
 use Rattle.verify_rows.specs.Verifying.{covered, wantedBlock}
 use Rattle.verify_rows.specs.Word.{wantedLeaf, leafRow, blockRow}
@@ -36,11 +35,10 @@ device-read false x = refl
 pub device-none :
     (t d base len j : ℕ) →
     d ≡ pick (leb base (covered base j) && ltb (covered base j) (base + len)) (deviceTo (covered base j)) 0 →
-    accepted ≡ first (blockRow t j d (wantedBlock base len j))
-unfolding first
+    blockRow t j d (wantedBlock base len j) ≡ []
 device-none t d base len j q =
     let x = covered base j in
-    rw (no-block-row t j d _ (ap decodedDevice q ∙ device-read (leb base x && ltb x (base + len)) x))
+    no-block-row t j d _ (ap decodedDevice q ∙ device-read (leb base x && ltb x (base + len)) x)
 
 -- what lies within a length of a base is less than that far from it
 pub distance : (a base len : ℕ) → base ≤ a → ltb (a - base) len ≡ ltb a (base + len)

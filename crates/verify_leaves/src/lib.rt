@@ -33,8 +33,12 @@ pub fn verify_base(arena: &[u64], base: &[u8], pa: u64) -> Verdict
 fn past_pages(arena: &[u64], base: &[u8], pa: u64) -> usize
     ensures { λ r. ⌜ (r ≤ entries) × ((k : ℕ) → k < r → baseRow (now (arena .entry)) (now (base .entry)) pa k ≡ []) ⌝ }
 {
+    // A short arena is read word by word.
+    if arena.len() < Layout::ARENA_LEN {
+        return 0;
+    }
     for m in 0..Layout::ENTRIES {
-        let d = verify_word::word_at(arena, 3 * Layout::ENTRIES + m);
+        let d = arena[3 * Layout::ENTRIES + m];
         let entry = lent::entry_at(base, m);
         if d != arena::page_word(pa, m as u32, entry) {
             return m;
@@ -71,9 +75,12 @@ pub fn verify_super(arena: &[u64], sup: &[u8], ipa: u64, pa: u64, exempt: bool) 
 fn past_blocks(arena: &[u64], sup: &[u8], ipa: u64, pa: u64, exempt: bool) -> usize
     ensures { λ r. ⌜ (r ≤ entries) × ((k : ℕ) → k < r → superRow (now (arena .entry)) (now (sup .entry)) ipa pa exempt k ≡ []) ⌝ }
 {
+    if arena.len() < Layout::ARENA_LEN {
+        return 0;
+    }
     for m in 0..Layout::ENTRIES {
-        let index = super_index(ipa, m);
-        let d = verify_word::word_at(arena, 4 * Layout::ENTRIES + index as usize);
+        let at = 4 * Layout::ENTRIES + super_index(ipa, m) as usize;
+        let d = arena[at];
         let entry = lent::entry_at(sup, m);
         if d != arena::block_word(pa, m as u32, exempt, entry) {
             return m;
@@ -105,7 +112,7 @@ fn super_index(ipa: u64, m: usize) -> u64
 pub fn verify_device(arena: &[u64], base: u64, len: u64) -> Verdict
     ensures { λ r. ⌜ outcomeOf r ≡ first (each (deviceRow (now (arena .entry)) base len) indices) ⌝ }
 {
-    for j in 0..Layout::ENTRIES {
+    for j in past_devices(arena, base, len)..Layout::ENTRIES {
         let verdict = device_slot(arena, base, len, j);
         let Verdict::Accepted = verdict else {
             return verdict;
@@ -114,15 +121,28 @@ pub fn verify_device(arena: &[u64], base: u64, len: u64) -> Verdict
     Verdict::Accepted
 }
 
+// How many slots, from the first on, have the emitted words: the same as `past_pages`.
+fn past_devices(arena: &[u64], base: u64, len: u64) -> usize
+    ensures { λ r. ⌜ (r ≤ entries) × ((k : ℕ) → k < r → deviceRow (now (arena .entry)) base len k ≡ []) ⌝ }
+{
+    if arena.len() < Layout::ARENA_LEN {
+        return 0;
+    }
+    for j in 0..Layout::ENTRIES {
+        let d = arena[5 * Layout::ENTRIES + j];
+        if d != emitted_block(base, len, j as u64) {
+            return j;
+        }
+    }
+    Layout::ENTRIES
+}
+
 fn device_slot(arena: &[u64], base: u64, len: u64, j: usize) -> Verdict
     requires { ⌜ j < entries ⌝ }
     ensures { λ r. ⌜ outcomeOf r ≡ first (deviceRow (now (arena .entry)) base len j) ⌝ }
 {
     let index = j as u64;
     let d = verify_word::word_at(arena, 5 * Layout::ENTRIES + j);
-    if d == emitted_block(base, len, index) {
-        return Verdict::Accepted;
-    }
     verify_word::device_block(6, index, d, wanted_block(base, len, index))
 }
 

@@ -19,20 +19,26 @@ Inv-loop arena sup ipa pa exempt m₀ m = (m ≤ entries) × ((k : ℕ) → k < 
 abbrev μ-loop : tie.MeasureT-loop
 μ-loop arena sup ipa pa exempt m₀ m = entries - m
 
+returns : tie.Need-returns Inv-loop μ-loop
+returns c = (omega arith, λ k lt. absurd (not-suc-le-zero lt))
+
 loop-holds : tie.Need-loop-holds Inv-loop μ-loop
 loop-holds c = (omega arith, λ k lt. absurd (not-suc-le-zero lt))
+
+mul-at : tie.Need-mul-at Inv-loop μ-loop
+mul-at c = search needs
 
 super-index-requires : tie.Need-super-index-requires Inv-loop μ-loop
 super-index-requires c κs = search needs
 
-mul-word-at : tie.Need-mul-word-at Inv-loop μ-loop
-mul-word-at c = search needs
+add-at : tie.Need-add-at Inv-loop μ-loop
+add-at c = search needs
 
-add-word-at : tie.Need-add-word-at Inv-loop μ-loop
-add-word-at c = search needs
+mul-d : tie.Need-mul-d Inv-loop μ-loop
+mul-d c = search needs
 
-word-at-requires : tie.Need-word-at-requires Inv-loop μ-loop
-word-at-requires c κs = search needs
+shared-slice-read-d : tie.Need-shared-slice-read-d Inv-loop μ-loop
+shared-slice-read-d c = search needs
 
 entry-at-requires : tie.Need-entry-at-requires Inv-loop μ-loop
 entry-at-requires c κs = search needs
@@ -43,8 +49,8 @@ cast-block-word c = search needs
 block-word-requires : tie.Need-block-word-requires Inv-loop μ-loop
 block-word-requires c κs = search needs
 
-returns : tie.Need-returns Inv-loop μ-loop
-returns c = c .before .before .before .before .before .before .loop .inv
+returns-2 : tie.Need-returns-2 Inv-loop μ-loop
+returns-2 c = c .before .before .before .before .before .before .loop .inv
 
 add-m : tie.Need-add-m Inv-loop μ-loop
 add-m c = search needs
@@ -57,18 +63,17 @@ unfolding superRow
 loop-again c =
     let emitted = c .before in
     let entry = emitted .before in
-    let word = entry .before in
-    let slot = word .before in
+    let slot = entry .before .before in
     let h = slot .before .before in
-    let a = h .before .before .before .args in
+    let a = h .before .before .before .before .args in
     let row = superRow (now (a .arena)) (now (a .sup)) (a .ipa) (a .pa) (a .exempt) in
     let here : row (h .loop .m) ≡ [] =
-    rw (← slot .super-index .ensures, ← word .word-at .ensures, ← entry .entry-at .ensures)
-    (block-none _ _ _ _ (entry .entry-at .result) (a .pa + h .loop .m * block) (a .exempt) (c .if1 .left ∙ emitted .block-word .ensures)) in
+    rw (← slot .super-index .ensures, ← entry .entry-at .ensures)
+    (block-none _ _ _ _ (entry .entry-at .result) (a .pa + h .loop .m * block) (a .exempt) (c .if2 .left ∙ emitted .block-word .ensures)) in
     (omega arith, below-next (λ k. row k ≡ []) (h .loop .m) (h .loop .inv .1) here)
 
-returns-2 : tie.Need-returns-2 Inv-loop μ-loop
-returns-2 c =
+returns-3 : tie.Need-returns-3 Inv-loop μ-loop
+returns-3 c =
     let h = c .before in
     (omega arith, λ k lt. h .loop .inv .1 k (omega (arith, lt, c .loop-test .left)))
 
@@ -78,16 +83,18 @@ past-blocks-spec =
     (tie.spec
     Inv-loop
     μ-loop
+    returns
     loop-holds
+    mul-at
     super-index-requires
-    mul-word-at
-    add-word-at
-    word-at-requires
+    add-at
+    mul-d
+    shared-slice-read-d
     entry-at-requires
     cast-block-word
     block-word-requires
-    returns
+    returns-2
     add-m
     loop-less
     loop-again
-    returns-2)
+    returns-3)

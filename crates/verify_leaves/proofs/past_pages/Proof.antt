@@ -19,17 +19,23 @@ Inv-loop arena base pa m₀ m = (m ≤ entries) × ((k : ℕ) → k < m → base
 abbrev μ-loop : tie.MeasureT-loop
 μ-loop arena base pa m₀ m = entries - m
 
+returns : tie.Need-returns Inv-loop μ-loop
+returns c = (omega arith, λ k lt. absurd (not-suc-le-zero lt))
+
 loop-holds : tie.Need-loop-holds Inv-loop μ-loop
 loop-holds c = (omega arith, λ k lt. absurd (not-suc-le-zero lt))
 
-mul-word-at : tie.Need-mul-word-at Inv-loop μ-loop
-mul-word-at c = search needs
+mul-d : tie.Need-mul-d Inv-loop μ-loop
+mul-d c = search needs
 
-add-word-at : tie.Need-add-word-at Inv-loop μ-loop
-add-word-at c = search needs
+add-d : tie.Need-add-d Inv-loop μ-loop
+add-d c = search needs
 
-word-at-requires : tie.Need-word-at-requires Inv-loop μ-loop
-word-at-requires c κs = search needs
+mul-d-2 : tie.Need-mul-d-2 Inv-loop μ-loop
+mul-d-2 c = search needs
+
+shared-slice-read-d : tie.Need-shared-slice-read-d Inv-loop μ-loop
+shared-slice-read-d c = search needs
 
 entry-at-requires : tie.Need-entry-at-requires Inv-loop μ-loop
 entry-at-requires c κs = search needs
@@ -40,8 +46,8 @@ cast-page-word c = search needs
 page-word-requires : tie.Need-page-word-requires Inv-loop μ-loop
 page-word-requires c κs = search needs
 
-returns : tie.Need-returns Inv-loop μ-loop
-returns c = c .before .before .before .before .before .loop .inv
+returns-2 : tie.Need-returns-2 Inv-loop μ-loop
+returns-2 c = c .before .before .before .before .before .loop .inv
 
 add-m : tie.Need-add-m Inv-loop μ-loop
 add-m c = search needs
@@ -55,15 +61,15 @@ loop-again c =
     let word = c .before in
     let entry = word .before in
     let h = entry .before .before .before in
-    let a = h .before .before .before .args in
+    let a = h .before .before .before .before .args in
     let row = baseRow (now (a .arena)) (now (a .base)) (a .pa) in
     let here : row (h .loop .m) ≡ [] =
-    rw (← entry .before .word-at .ensures, ← entry .entry-at .ensures)
-    (page-none _ _ _ _ (entry .entry-at .result) (a .pa + h .loop .m * page) (c .if1 .left ∙ word .page-word .ensures)) in
+    rw (← entry .entry-at .ensures)
+    (page-none _ _ _ _ (entry .entry-at .result) (a .pa + h .loop .m * page) (c .if2 .left ∙ word .page-word .ensures)) in
     (omega arith, below-next (λ k. row k ≡ []) (h .loop .m) (h .loop .inv .1) here)
 
-returns-2 : tie.Need-returns-2 Inv-loop μ-loop
-returns-2 c =
+returns-3 : tie.Need-returns-3 Inv-loop μ-loop
+returns-3 c =
     let h = c .before in
     (omega arith, λ k lt. h .loop .inv .1 k (omega (arith, lt, c .loop-test .left)))
 
@@ -73,15 +79,17 @@ past-pages-spec =
     (tie.spec
     Inv-loop
     μ-loop
+    returns
     loop-holds
-    mul-word-at
-    add-word-at
-    word-at-requires
+    mul-d
+    add-d
+    mul-d-2
+    shared-slice-read-d
     entry-at-requires
     cast-page-word
     page-word-requires
-    returns
+    returns-2
     add-m
     loop-less
     loop-again
-    returns-2)
+    returns-3)

@@ -1,12 +1,14 @@
 -- `verify_device` meets its contract: the first row is that of the slots from j on.
 use Prim.Native.Nat.{_-_}
-use mathlib.Core.Path.{_≡_, refl, sym, _∙_}
+use mathlib.Core.Path.{_≡_, sym, ap, _∙_}
+use native.Mathlib.Omega.{arith}
 use borrow.Author.Needs.{needs}
+use denote.Ref.{now}
 use Rattle.layout.specs.Size.{entries}
 use Rattle.refusal.proofs.First.{next, stop}
 use Rattle.refusal.specs.Table.{first, each}
 use Rattle.verify_rows.specs.Verifying.{indices, deviceRow}
-use Rattle.verify_rows.proofs.Range.{rest, rest-at, rest-end}
+use Rattle.verify_rows.proofs.Range.{rest, rest-at, rest-end, passed}
 use Rattle.verify_leaves.proofs.verify_device.Statement.{statement}
 use Rattle.verify_leaves.proofs.verify_device.Tie as tie
 
@@ -16,8 +18,16 @@ Inv-loop arena base len j₀ j = first (each (deviceRow arena base len) indices)
 abbrev μ-loop : tie.MeasureT-loop
 μ-loop arena base len j₀ j = entries - j
 
+past-devices-requires : tie.Need-past-devices-requires Inv-loop μ-loop
+past-devices-requires c κs = search needs
+
 loop-holds : tie.Need-loop-holds Inv-loop μ-loop
-loop-holds c = refl
+loop-holds c =
+    let a = c .before .before .args in
+    let past = c .past-devices .ensures in
+    ap first
+    (passed (deviceRow (now (a .arena)) (a .base) (a .len)) entries 0 (c .past-devices .result) (omega arith) (past .0)
+    (λ k lt le. past .1 k lt))
 
 device-slot-requires : tie.Need-device-slot-requires Inv-loop μ-loop
 device-slot-requires c κs = search needs
@@ -58,6 +68,7 @@ verify-device-spec =
     (tie.spec
     Inv-loop
     μ-loop
+    past-devices-requires
     loop-holds
     device-slot-requires
     enum-told
