@@ -31,8 +31,8 @@ pub fn lines() {
     }
 }
 
-/// Half of the edges are base leaves, and half supers of other frames; now and then one is of
-/// another domain's table or none of a leaf.
+/// Half of the edges are base leaves, and half supers of other frames; now and then one is another
+/// domain's, or no leaf.
 fn edge(random: &mut Random) -> Edge {
     let half = MAP_LEN as u64 / 2;
     let sup = random.below(2);
