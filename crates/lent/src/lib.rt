@@ -2,9 +2,9 @@
 use layout::Layout;
 use refusal::Refusal;
 use refusal::Verdict;
-ghost use Prim.Native.Nat.{ℕ, _≤_};
 ghost use mathlib.Core.Path.{_≡_};
 ghost use lib.ListN.{getD};
+ghost use Rattle.lent.specs.Larger.{largest};
 ghost use Rattle.refusal.specs.Outcome.{outcomeOf};
 ghost use Rattle.refusal.specs.Table.{first, eachFrom};
 ghost use Rattle.rows.specs.Rows.{row1, row2, row3, readRows, lengthRows, mapRows};
@@ -49,7 +49,7 @@ pub fn map_codes(code: u64, map: &[u8]) -> Verdict
 
 // The largest byte of a map, 0 where it has none.
 pub fn largest(map: &[u8]) -> u8
-    ensures { λ r. ⌜ ((i : ℕ) → getD (now (map .entry)) i 0 ≤ r) ⌝ }
+    ensures { λ r. ⌜ r ≡ largest (now (map .entry)) ⌝ }
 {
     let mut most = 0;
     for i in 0..map.len() {

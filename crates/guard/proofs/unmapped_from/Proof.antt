@@ -1,10 +1,12 @@
 -- `unmapped_from` meets its contract: past its end a map has zeros, and where the largest entry of a part is 0, all are.
 use native.Mathlib.Omega.{arith}
-use Prim.Native.Nat.{_-_, _≤_}
+use Prim.Native.Nat.{_-_}
+use mathlib.Core.Path.{sym, _∙_}
 use lib.ListN.{length, take, drop, getD, List·getD-eq-default}
 use borrow.Author.Needs.{needs}
 use borrow.Author.Tests.{eqb-true}
 use denote.Ref.{now}
+use Rattle.lent.proofs.Larger.{at-most}
 use Rattle.guard.proofs.Unmapped.{no-row14, zero-from}
 use Rattle.guard.proofs.unmapped_from.Statement.{statement}
 use Rattle.guard.proofs.unmapped_from.Tie as tie
@@ -36,9 +38,8 @@ returns-2 c =
     λ zero p.
     no-row14 (a .sup-frames) p (getD sup p 0)
     (zero-from sup (a .sup-frames) p
-    (λ i.
-    let part : getD (take (length sup - a .sup-frames) (drop (a .sup-frames) sup)) i 0 ≤ c .largest .result = c .largest .ensures i in
-    omega (arith, part, eqb-true (c .largest .result) 0 zero)))
+    (at-most (take (length sup - a .sup-frames) (drop (a .sup-frames) sup)) 0
+    (sym (eqb-true (c .largest .result) 0 zero) ∙ c .largest .ensures)))
 
 pub unmapped-from-spec : {M : Type 1} → statement M
 unmapped-from-spec =

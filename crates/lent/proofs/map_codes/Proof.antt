@@ -10,6 +10,7 @@ use Rattle.refusal.proofs.Parts.{from-at, from-end}
 use Rattle.refusal.specs.Table.{first, eachFrom}
 use Rattle.rows.specs.Rows.{row3}
 use Rattle.lent.proofs.Codes.{all-codes}
+use Rattle.lent.proofs.Larger.{at-most}
 use Rattle.lent.proofs.map_codes.Statement.{statement}
 use Rattle.lent.proofs.map_codes.Tie as tie
 
@@ -26,7 +27,7 @@ returns : tie.Need-returns Inv-loop μ-loop
 returns c =
     let v = c .before in
     let a = v .before .before .args in
-    sym (all-codes (a .code) (now (a .map)) (λ i. le-trans (v .largest .ensures i) (c .if1 .taken)))
+    sym (all-codes (a .code) (now (a .map)) (λ i. le-trans (at-most (now (a .map)) _ (v .largest .ensures) i) (c .if1 .taken)))
 
 loop-holds : tie.Need-loop-holds Inv-loop μ-loop
 loop-holds c = refl
