@@ -7,7 +7,7 @@ scenes=$1 seed=$2
 qemu=qemu-system-aarch64
 
 install_qemu() {
-    apt-get update && apt-get install -y --no-install-recommends qemu-system-arm
+    timeout 120 apt-get update && timeout 300 apt-get install -y --no-install-recommends qemu-system-arm
 }
 command -v $qemu >/dev/null || install_qemu >target/arm/install.log 2>&1 || true
 if ! command -v $qemu >/dev/null; then

@@ -1,7 +1,7 @@
 #!/bin/sh
 # ask.sh NUMBER: how the comparison notices the fault, as one line: its number and a word.
 out=target/sabotage
-{ said=$(FAULT=$1 timeout 60 $out/oracle/release/judge hunt 2>&1); } 2>/dev/null
+{ said=$(FAULT=$1 timeout 300 $out/oracle/release/judge hunt 2>&1); } 2>/dev/null
 case $? in
     0) how=missed ;;
     1) how=difference ;;
