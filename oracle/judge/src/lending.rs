@@ -4,6 +4,9 @@ use crate::fenced::{self, Fenced};
 use crate::maps::NO_PERMISSION;
 use crate::port::UNWRITTEN;
 
+/// The byte of `Rw` in a map.
+const RW: u8 = 2;
+
 pub struct Lending {
     pub arena: Fenced<u64>,
     pub base: Fenced<u8>,
@@ -18,19 +21,25 @@ pub struct Lent {
     pub sup: (*mut u8, usize),
 }
 
+/// A map between entries that would be refused, or that would be encoded: by how many it maps.
+fn fenced_map(map: &[u8]) -> Fenced<u8> {
+    let mapped = map.iter().filter(|entry| **entry != 0).count();
+    Fenced::new(map, [NO_PERMISSION, RW][mapped % 2])
+}
+
 impl Lending {
     pub fn new(arena: &[u64], base: &[u8], sup: &[u8]) -> Self {
         Lending {
             arena: Fenced::new(arena, UNWRITTEN),
-            base: Fenced::new(base, NO_PERMISSION),
-            sup: Fenced::new(sup, NO_PERMISSION),
+            base: fenced_map(base),
+            sup: fenced_map(sup),
         }
     }
 
     /// Lends other maps in the place of these.
     pub fn lend_maps(&mut self, base: &[u8], sup: &[u8]) {
-        self.base = Fenced::new(base, NO_PERMISSION);
-        self.sup = Fenced::new(sup, NO_PERMISSION);
+        self.base = fenced_map(base);
+        self.sup = fenced_map(sup);
     }
 
     /// As many words of the arena, or some of the fence after it too, and the maps whole.
