@@ -1,12 +1,13 @@
 #!/bin/sh
-# ask.sh NUMBER: how the comparison notices the fault, as one line: its number and a word.
-out=target/sabotage
-{ said=$(FAULT=$1 timeout 300 $out/oracle/release/judge hunt 2>&1); } 2>/dev/null
+# ask.sh NUMBER: how the comparison notices the fault, as one line: its number, a word, and what it says first. A hunt that finds nothing takes some 10
+# seconds of the processor's time.
+ulimit -t 40
+{ said=$(FAULT=$1 target/sabotage/oracle/release/judge hunt 2>&1); } 2>/dev/null
 case $? in
     0) how=missed ;;
     1) how=difference ;;
     101) how=panic ;;
-    124) how=endless ;;
+    137 | 152) how=endless ;;
     *) how=crash ;;
 esac
 printf '%s\t%s\t%s\n' "$1" $how "$(echo "$said" | head -1)"

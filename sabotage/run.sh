@@ -19,7 +19,7 @@ PROBE_DIR=$out CARGO_TARGET_DIR=$out/oracle cargo build --quiet --release --offl
 
 # With no fault there is no difference.
 sabotage/ask.sh 0 | grep -q missed
-cut -f 1 $out/list | xargs -P 2 -n 1 sabotage/ask.sh | sort -n >$out/answers
+cut -f 1 $out/list | xargs -P 2 -n 1 sabotage/ask.sh >$out/answers
 
 # A fault that is missed, and one that is listed, by function, number and change.
 awk -F '\t' 'NR == FNR { how[$1] = $2; next } how[$1] == "missed" { print $2 "\t" $3 "\t" $4 }' $out/answers $out/list | sort >$out/missed
