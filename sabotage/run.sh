@@ -1,6 +1,6 @@
 #!/bin/sh
 # Seeds every fault in the compiled libraries, one at a time, and lets the comparison look for it. Those that it misses must be the ones that
-# sabotage/alike.txt lists, with the reason why they change no answer.
+# sabotage/missed.txt lists, each with its reason.
 set -eu
 cd "$(dirname "$0")/.."
 out=target/sabotage
@@ -23,9 +23,9 @@ cut -f 1 $out/list | xargs -P 2 -n 1 sabotage/ask.sh >$out/answers
 
 # A fault that is missed, and one that is listed, by function, number and change.
 awk -F '\t' 'NR == FNR { how[$1] = $2; next } how[$1] == "missed" { print $2 "\t" $3 "\t" $4 }' $out/answers $out/list | sort >$out/missed
-grep -v '^#' sabotage/alike.txt | cut -f 1-3 | sort >$out/listed
+grep -v '^#' sabotage/missed.txt | cut -f 1-3 | sort >$out/listed
 diff $out/listed $out/missed || { echo "sabotage: faults are missed that are not listed, or listed that are not missed"; exit 1; }
 awk -F '\t' '{ count[$2]++ } END {
-    printf "sabotage: %d faults: %d noticed as a difference, %d by a panic, %d by a crash, %d do not end, %d change no answer\n",
+    printf "sabotage: %d faults: %d noticed as a difference, %d by a panic, %d by a crash, %d do not end, %d missed, as listed\n",
         NR, count["difference"], count["panic"], count["crash"], count["endless"], count["missed"]
 }' $out/answers
