@@ -1,3 +1,4 @@
+pub mod Ascii
 pub mod Bits
 pub mod Named
 pub mod Numbers

@@ -14,6 +14,10 @@ use Rattle.layout.specs.declared.Table.{Table}
 abbrev pub imageOf : ℕ → ℕ → GuestImage
 imageOf present pa = pick (eqb present 0) Absent (At pa)
 
+-- the fields, and whether there is an image
+abbrev pub numberCount : ℕ
+numberCount = 17
+
 -- fields 01 to 10, with whether there is an image just before the image
 unfoldable pub layoutOf : List ℕ → Layout
 layoutOf x =

@@ -3,13 +3,7 @@ use Prim.Native.Nat.{ℕ, zero, suc, _+_, _-_, _/_, _%_}
 use mathlib.Core.Bool.{cond}
 use mathlib.Core.List.{List, [], _∷_, _++_}
 use lib.Dec.{ltb}
-
--- bytes, by their ASCII codes
-abbrev pub space : ℕ
-space = 0x20
-
-abbrev pub lineFeed : ℕ
-lineFeed = 0x0A
+use Rattle.fields.specs.Ascii.{space, lineFeed}
 
 -- the byte of a digit below 16: 0 to 9, then A to F
 abbrev pub glyph : ℕ → ℕ

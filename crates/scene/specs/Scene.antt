@@ -1,10 +1,11 @@
--- A scene: a layout's numbers and both maps, as its lines have set them; unset fields are zero, an unset image absent.
+-- A scene: a layout's numbers and both maps, as its lines have set them.
 use Prim.Native.Nat.{ℕ, _-_}
 use mathlib.Core.List.{List}
 use lib.Dec.{eqb}
-use lib.ListN.{set}
+use lib.ListN.{set, replicate}
 use Rattle.fields.specs.Named.{pick}
-use Rattle.layout.specs.Layout.{imageField, fieldAt}
+use Rattle.layout.specs.Layout.{numberCount, imageField, fieldAt}
+use Rattle.layout.specs.Size.{entries}
 use Rattle.scene_line.specs.declared.Line.{Line}
 use Rattle.scene_line.specs.declared.Line.the-variants.{Field, Base, Super, Bad}
 
@@ -15,6 +16,10 @@ pub record Scene : Type 0 where
 
 abbrev pub scene : List ℕ → List ℕ → List ℕ → Scene
 scene numbers base sup = record { numbers = numbers; base = base; sup = sup }
+
+-- before any line: unset fields are zero, an unset image absent
+abbrev pub unset : Scene
+unset = scene (replicate numberCount 0) (replicate entries 0) (replicate entries 0)
 
 -- whether there is an image stands just before it
 unfoldable pub withField : List ℕ → ℕ → ℕ → List ℕ

@@ -5,8 +5,9 @@ use mathlib.Core.Path.{_≡_, refl, ap}
 use native.Mathlib.Omega.{arith}
 use lib.ListN.{length, getD, drop}
 use borrow.Author.Tests.{eq-eqb, ne-eqb}
+use Rattle.fields.specs.Ascii.{space}
 use Rattle.fields.specs.Named.{pick}
-use Rattle.scene_line.specs.Line.{space, saidAfter, lineOf}
+use Rattle.scene_line.specs.Line.{saidAfter, lineOf}
 use Rattle.scene_line.specs.declared.Line.the-variants.{Bad}
 
 pub too-short : (cs : List ℕ) → length cs < 2 → lineOf cs ≡ Bad

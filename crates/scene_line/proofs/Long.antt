@@ -8,8 +8,9 @@ use lib.Dec.{eqb, leb, ltb}
 use lib.ListN.{length, length-drop}
 use lib.Seq.{length-take-le}
 use borrow.Author.Tests.{ltb-true, ltb-false, lt-leb}
+use Rattle.fields.specs.Ascii.{space}
 use Rattle.fields.specs.Named.{pick}
-use Rattle.scene_line.specs.Line.{space, numberOf, withDigits, firstSpace, before, after, saidBy, saidAfter, lineOf}
+use Rattle.scene_line.specs.Line.{numberOf, withDigits, firstSpace, before, after, saidBy, saidAfter, lineOf}
 use Rattle.scene_line.specs.Long.{LongSaysNothing}
 use Rattle.scene_line.specs.declared.Line.the-variants.{Bad}
 use Rattle.scene_line.specs.declared.Number.the-variants.{Value, NoNumber}

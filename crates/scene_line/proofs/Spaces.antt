@@ -6,7 +6,8 @@ use native.Mathlib.Numerals.{add-one}
 use lib.ListN.{length, getD, drop, drop-of-length-le}
 use lib.Seq.{drop-cons}
 use borrow.Author.Tests.{eq-eqb, ne-eqb}
-use Rattle.scene_line.specs.Line.{space, firstSpace}
+use Rattle.fields.specs.Ascii.{space}
+use Rattle.scene_line.specs.Line.{firstSpace}
 
 module _ (cs : List ℕ) (i : ℕ) where
   pub space-here : i < length cs → getD cs i 0 ≡ space → firstSpace (drop i cs) ≡ 0

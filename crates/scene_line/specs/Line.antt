@@ -1,19 +1,17 @@
 -- A line of a scene, by document 01 ("Proved and printed"): L field value, B position code, or U position code for supers.
 use Prim.Native.Nat.{ℕ, suc, _+_, _-_, _*_}
-use mathlib.Core.Bool.{Bool, _&&_, _||_, not}
+use mathlib.Core.Bool.{Bool, true, false, _&&_, _||_, not}
 use mathlib.Core.List.{List, [], _∷_, foldl}
 use lib.Dec.{eqb, leb}
 use lib.ListN.{length, take, drop}
+use Rattle.fields.specs.Ascii.{space}
 use Rattle.fields.specs.Named.{pick}
 use Rattle.scene_line.specs.declared.Line.{Line}
 use Rattle.scene_line.specs.declared.Line.the-variants.{Field, Base, Super, Bad}
 use Rattle.scene_line.specs.declared.Number.{Number}
 use Rattle.scene_line.specs.declared.Number.the-variants.{Value, NoNumber}
 
--- bytes, by their ASCII codes
-abbrev pub space : ℕ
-space = 0x20
-
+-- the letters, by their ASCII codes
 abbrev pub letterL : ℕ
 letterL = 0x4C
 
@@ -88,3 +86,10 @@ unfoldable pub lineOf : List ℕ → Line
 lineOf [] = Bad
 lineOf (letter ∷ []) = Bad
 lineOf (letter ∷ c ∷ cs) = pick (eqb c space) (saidAfter letter cs) Bad
+
+-- whether it says something
+abbrev pub says : Line → Bool
+says (Field n value) = true
+says (Base position code) = true
+says (Super position code) = true
+says Bad = false

@@ -1,6 +1,6 @@
 // What a line of a scene says (document 01, "Proved and printed").
 ghost use mathlib.Core.Path.{_≡_};
-ghost use Rattle.scene_line.specs.Line.{digitOf, firstSpace, letterL, lineOf, numberOf, said, saidAfter};
+ghost use Rattle.scene_line.specs.Line.{digitOf, firstSpace, letterL, lineOf, numberOf, said, saidAfter, says};
 
 pub enum Line {
     Field { field: usize, value: u64 },
@@ -17,6 +17,24 @@ pub enum Number {
 impl Line {
     // The field that is 0 or 1.
     const EXEMPTION: u64 = 0xF;
+
+    // Whether it says something.
+    pub fn says(self) -> bool
+        ensures { λ r. ⌜ r ≡ says self ⌝ }
+    {
+        match self {
+            Line::Field { field: _, value: _ } => true,
+            Line::Base {
+                position: _,
+                code: _,
+            } => true,
+            Line::Super {
+                position: _,
+                code: _,
+            } => true,
+            Line::Bad => false,
+        }
+    }
 }
 
 // What a line says, without its line feed.

@@ -6,7 +6,8 @@ use native.Mathlib.Omega.{arith}
 use lib.ListN.{length, set, replicate}
 use borrow.Author.Needs.{needs}
 use borrow.Rule.Slice.PartMut.{midOf, putMid}
-use Rattle.printed.specs.Word.{space, lineFeed, digits}
+use Rattle.fields.specs.Ascii.{space, lineFeed}
+use Rattle.printed.specs.Word.{digits}
 use Rattle.printed.proofs.word_line.Statement.{statement}
 use Rattle.printed.proofs.word_line.Tie as tie
 
