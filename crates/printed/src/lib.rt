@@ -1,8 +1,55 @@
 // The lines that the dump prints (document 01, "Proved and printed").
-ghost use Prim.Native.Nat.{_%_};
+ghost use Prim.Native.Nat.{_+_, _%_, _≤_};
 ghost use mathlib.Core.Path.{_≡_};
 ghost use lib.ListN.{length};
+ghost use lib.Seq.{paste};
+ghost use Rattle.printed.specs.Line.{badLine, refusedLine, inFront};
 ghost use Rattle.printed.specs.Word.{glyph, digits, wordLine};
+
+// The longest line: REFUSED, a space, 20 digits and a line feed.
+pub const LINE: usize = 29;
+
+// Where a line says nothing. The line stands in the front of the buffer; returns its length, as the others do.
+pub fn bad_line(out: &mut [u8; LINE]) -> usize
+    ensures { λ r. ⌜ r ≡ length badLine ⌝ }
+    ensures { λ _. ⌜ now (out .exit) ≡ inFront badLine (now (out .entry)) ⌝ }
+{
+    put(b"BAD LINE\n", out, 0)
+}
+
+// A refused scene, by the row's number.
+pub fn refused_line(number: u64, out: &mut [u8; LINE]) -> usize
+    ensures { λ r. ⌜ r ≡ length (refusedLine number) ⌝ }
+    ensures { λ r. ⌜ r ≤ 29 ⌝ }
+    ensures { λ _. ⌜ now (out .exit) ≡ inFront (refusedLine number) (now (out .entry)) ⌝ }
+{
+    put_refused(number, out)
+}
+
+fn put_refused(number: u64, out: &mut [u8]) -> usize
+    requires { ⌜ length (now out) ≡ 29 ⌝ }
+    ensures { λ r. ⌜ r ≡ length (refusedLine number) ⌝ }
+    ensures { λ r. ⌜ r ≤ 29 ⌝ }
+    ensures { λ _. ⌜ now (out .exit) ≡ inFront (refusedLine number) (now (out .entry)) ⌝ }
+{
+    let mut digits = [0; 20];
+    let count = io::decimal(number, &mut digits);
+    let from = put(b"REFUSED ", out, 0);
+    let end = put(&digits[..count], out, from);
+    put(b"\n", out, end)
+}
+
+// A text from an index of the buffer on; returns the index after it.
+fn put(text: &[u8], out: &mut [u8], at: usize) -> usize
+    requires { ⌜ at + length (now text) ≤ length (now out) ⌝ }
+    ensures { λ r. ⌜ r ≡ at + length (now (text .entry)) ⌝ }
+    ensures { λ _. ⌜ now (out .exit) ≡ paste (now (out .entry)) at (now (text .entry)) (length (now (text .entry))) ⌝ }
+{
+    for i in 0..text.len() {
+        out[at + i] = text[i];
+    }
+    at + text.len()
+}
 
 // A word of a table, by its table and index.
 pub fn word_line(table: u64, index: u64, word: u64) -> [u8; 23]

@@ -1,0 +1,23 @@
+-- The lines that are printed where a scene has no words, by document 01 ("Proved and printed").
+use Prim.Native.Nat.{ℕ, zero, suc, _+_, _/_, _%_}
+use mathlib.Core.List.{List, [], _∷_, _++_}
+use lib.Dec.{ltb}
+use lib.ListN.{length, drop}
+use Rattle.fields.specs.Ascii.{ascii, lineFeed}
+use Rattle.fields.specs.Named.{pick}
+
+unfoldable pub badLine : List ℕ
+badLine = ascii "BAD LINE\n"
+
+-- a number in decimal: its last digit after those before it, if there are any; k is the most that it has
+unfoldable pub decimal : ℕ → ℕ → List ℕ
+decimal zero n = []
+decimal (suc k) n = pick (ltb n 10) [] (decimal k (n / 10)) ++ ((0x30 + n % 10) ∷ [])
+
+-- REFUSED, a space and the number; one of 64 bits has at most 20 digits
+unfoldable pub refusedLine : ℕ → List ℕ
+refusedLine number = ascii "REFUSED " ++ (decimal 20 number ++ (lineFeed ∷ []))
+
+-- a text in the front of a buffer; the rest stays
+abbrev pub inFront : List ℕ → List ℕ → List ℕ
+inFront text old = text ++ drop (length text) old
