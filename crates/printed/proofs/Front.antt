@@ -1,11 +1,12 @@
 -- Texts put one after the other into a buffer stand in its front.
 use Prim.Native.Nat.{ℕ, _+_}
 use mathlib.Core.List.{List, _++_}
-use mathlib.Core.Path.{_≡_, sym, ap, _∙_}
+use mathlib.Core.Path.{_≡_, refl, sym, ap, _∙_}
 use native.Mathlib.Omega.{arith}
 use lib.ListN.{length, drop, length-append}
 use lib.Seq.{paste, take-length, take-append-seam, drop-append-add, drop-drop}
 use Rattle.printed.specs.Line.{inFront}
+use Rattle.printed.specs.Word.{wordLine}
 
 pub put-first : (old text : List ℕ) → paste old 0 text (length text) ≡ inFront text old
 put-first old text = let none : 0 + length text ≡ length text = omega arith in rw (take-length text, none)
@@ -14,3 +15,7 @@ pub put-next : (old text more : List ℕ) → paste (inFront text old) (length t
 put-next old text more =
     let rest = drop-append-add text (drop (length text) old) (length more) ∙ drop-drop (length more) (length text) old in
     rw (take-append-seam text (drop (length text) old), take-length more, rest, length-append text more)
+
+pub word-line-length : (table index word : ℕ) → length (wordLine table index word) ≡ 23
+unfolding wordLine
+word-line-length table index word = refl

@@ -1,6 +1,7 @@
 -- The lines that are printed where a scene has no words, by document 01 ("Proved and printed").
-use Prim.Native.Nat.{ℕ, zero, suc, _+_, _/_, _%_}
+use Prim.Native.Nat.{ℕ, zero, suc, _+_, _/_, _%_, _≤_}
 use mathlib.Core.List.{List, [], _∷_, _++_}
+use mathlib.Core.Path.{_≡_}
 use lib.Dec.{ltb}
 use lib.ListN.{length, drop}
 use Rattle.fields.specs.Ascii.{ascii, lineFeed}
@@ -18,6 +19,16 @@ decimal (suc k) n = pick (ltb n 10) [] (decimal k (n / 10)) ++ ((0x30 + n % 10) 
 unfoldable pub refusedLine : ℕ → List ℕ
 refusedLine number = ascii "REFUSED " ++ (decimal 20 number ++ (lineFeed ∷ []))
 
+-- the longest line: REFUSED, a space, 20 digits and a line feed
+abbrev pub longest : ℕ
+longest = 29
+
 -- a text in the front of a buffer; the rest stays
 abbrev pub inFront : List ℕ → List ℕ → List ℕ
 inFront text old = text ++ drop (length text) old
+
+-- a buffer that is lent for a line, at entry and exit, and the length that is returned
+pub record Puts (text old : List ℕ) (n : ℕ) (new : List ℕ) : Type 0 where
+  pub long : n ≡ length text
+  pub fits : n ≤ longest
+  pub bytes : new ≡ inFront text old

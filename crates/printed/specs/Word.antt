@@ -15,6 +15,6 @@ digits zero n = []
 digits (suc k) n = digits k (n / 16) ++ (glyph (n % 16) ∷ [])
 
 -- with one space between, ended by a line feed
-abbrev pub wordLine : ℕ → ℕ → ℕ → List ℕ
+unfoldable pub wordLine : ℕ → ℕ → ℕ → List ℕ
 wordLine table index word =
     digits 1 table ++ (space ∷ []) ++ digits 3 index ++ (space ∷ []) ++ digits 16 word ++ (lineFeed ∷ [])

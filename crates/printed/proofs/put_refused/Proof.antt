@@ -77,7 +77,11 @@ returns c =
     let text : (front ++ number) ++ feed ≡ refusedLine (a .number) =
     append-assoc front number feed ∙ ap (λ ds. front ++ (ds ++ feed)) (d .decimal .ensures .1 .1 ∙ fewest 20 (d .decimal .result) (a .number) short (d .decimal .ensures .1 .0)) in
     let end : t .put3 .result ≡ length ((front ++ number) ++ feed) = t .put3 .ensures .0 ∙ ap (λ k. k + 1) long ∙ sym (length-append (front ++ number) feed) in
-    (end ∙ ap length text, (omega (arith, t .put3 .ensures .0, q .put2 .ensures .0, f .put .ensures .0, d .decimal .ensures .0, short), three ∙ ap (λ l. inFront l old) text))
+    record {
+      long = end ∙ ap length text;
+      fits = omega (arith, t .put3 .ensures .0, q .put2 .ensures .0, f .put .ensures .0, d .decimal .ensures .0, short);
+      bytes = three ∙ ap (λ l. inFront l old) text;
+    }
 
 pub put-refused-spec : {M : Type 1} → statement M
 put-refused-spec =

@@ -1,0 +1,3 @@
+pub mod InOrder
+pub mod Putting
+pub mod Whole
