@@ -1,11 +1,11 @@
 -- Texts put one after the other into a buffer stand in its front.
-use Prim.Native.Nat.{ℕ, _+_}
+use Prim.Native.Nat.{ℕ, _+_, _≤_}
 use mathlib.Core.List.{List, _++_}
 use mathlib.Core.Path.{_≡_, refl, sym, ap, _∙_}
 use native.Mathlib.Omega.{arith}
 use lib.ListN.{length, drop, length-append}
 use lib.Seq.{paste, take-length, take-append-seam, drop-append-add, drop-drop}
-use Rattle.printed.specs.Line.{inFront}
+use Rattle.printed.specs.Line.{inFront, Puts}
 use Rattle.printed.specs.Word.{wordLine}
 
 pub put-first : (old text : List ℕ) → paste old 0 text (length text) ≡ inFront text old
@@ -19,3 +19,8 @@ put-next old text more =
 pub word-line-length : (table index word : ℕ) → length (wordLine table index word) ≡ 23
 unfolding wordLine
 word-line-length table index word = refl
+
+-- the line lies in the buffer
+pub lies-within : (text old : List ℕ) (n : ℕ) (new : List ℕ) → Puts text old n new → n ≤ length new
+lies-within text old n new p =
+    omega (arith, p .long, ap length (p .bytes), length-append text (drop (length text) old))
