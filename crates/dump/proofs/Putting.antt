@@ -6,11 +6,11 @@ use native.Mathlib.Omega.{arith}
 use lib.ListN.{length, getD, List·getD-eq-default}
 use borrow.Author.Tests.{eq-eqb, ne-eqb}
 use Rattle.arena.specs.Encoded.{tableOf, indexOf}
+use Rattle.printed.specs.Line.{Puts}
+use Rattle.printed.specs.Word.{wordLine}
 use Rattle.dump.specs.Dump.{lineAt}
 use Rattle.dump.specs.Pieces.{alone, pieceAt}
 use Rattle.dump.specs.declared.Answer.the-variants.{Words}
-use Rattle.printed.specs.Line.{Puts}
-use Rattle.printed.specs.Word.{wordLine}
 
 -- no byte is put
 pub none-put : (old : List ℕ) → Puts [] old 0 old

@@ -1,6 +1,6 @@
 -- The pieces of an answer are what is printed of its scene.
 use Prim.Native.Nat.{ℕ, _<_}
-use mathlib.Core.List.{List, [], append-nil, flatMap}
+use mathlib.Core.List.{List, append-nil, flatMap}
 use mathlib.Core.Path.{_≡_, ap, _∙_}
 use native.Mathlib.Omega.{arith}
 use lib.ListN.{length, replicate, length-replicate}
@@ -15,8 +15,8 @@ use Rattle.rows.specs.Rows.{row1, guardRows, arenaGuardRows}
 use Rattle.tables.proofs.Arena.{from-zeros}
 use Rattle.dump.specs.Dump.{inOrder, lineAt, printedBy}
 use Rattle.dump.specs.Pieces.{pieceAt, pieces}
-use Rattle.dump.specs.declared.Answer.{Answer}
 use Rattle.dump.specs.declared.Answer.the-variants.{BadLine, Refused, Words}
+use Rattle.dump.specs.declared.Answer.{Answer}
 use Rattle.dump.proofs.InOrder.{same-texts, alone-all}
 
 pub bad-pieces : (words : List ℕ) → 0 < length words → pieces BadLine words ≡ badLine

@@ -1,5 +1,5 @@
 -- What is kept of an unfinished line, byte by byte, and the reading of a piece from an index on.
-use Prim.Native.Nat.{ℕ, suc, _+_, _≤_, _<_, min}
+use Prim.Native.Nat.{ℕ, _+_, _≤_, _<_, min}
 use mathlib.Core.Bool.{Bool, true, false}
 use mathlib.Core.List.{List, [], _∷_, _++_}
 use mathlib.Core.Path.{_≡_, refl, sym, ap, _∙_}
@@ -7,13 +7,13 @@ use native.Mathlib.Numerals.{add-one}
 use native.Mathlib.Omega.{arith}
 use lib.Dec.{ltb}
 use lib.ListN.{length, getD, set, take, drop, length-append, drop-of-length-le}
-use lib.Seq.{take-all, take-suc-set, take-append-le, take-length, take-take, length-take-le, drop-cons}
+use lib.Seq.{take-all, take-suc-set, take-append-le, take-length, length-take-le, drop-cons}
 use borrow.Author.Tests.{ltb-true, ltb-false, eq-eqb, ne-eqb}
 use Rattle.fields.specs.Ascii.{lineFeed}
 use Rattle.scene.specs.Scene.{Scene, applied}
 use Rattle.scene_line.specs.Line.{lineOf, says}
-use Rattle.scene_line.specs.declared.Line.{Line}
 use Rattle.scene_line.specs.declared.Line.the-variants.{Field, Base, Super, Bad}
+use Rattle.scene_line.specs.declared.Line.{Line}
 use Rattle.scene_text.specs.Reading.{Reading, reading, stopped, onward, taken, takenAll, finished, readOf}
 use Rattle.scene_text.specs.Text.{heard}
 

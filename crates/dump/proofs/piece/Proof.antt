@@ -1,16 +1,12 @@
+-- `piece` meets its contract: by the answer.
+use mathlib.Core.Path.{ap, _∙_}
+use borrow.Author.Needs.{needs}
+use denote.Ref.{now}
+use Rattle.printed.specs.Line.{badLine, refusedLine}
 use Rattle.dump.specs.Pieces.{pieceAt}
 use Rattle.dump.proofs.Putting.{none-put, alone-first, alone-later}
-use Rattle.printed.specs.Line.{badLine, refusedLine, Puts}
-use denote.Ref.{now}
-use mathlib.Core.Path.{_≡_, sym, ap, _∙_}
-use borrow.Author.Needs.{needs}
 use Rattle.dump.proofs.piece.Statement.{statement}
 use Rattle.dump.proofs.piece.Tie as tie
-use Rattle.dump.proofs.piece.Reads as reads
-use Rattle.dump.proofs.piece.Lts as lts
-use Rattle.dump.proofs.word_piece.Reads as word-piece-reads
-use Rattle.printed.proofs.bad_line.Reads as bad-line-reads
-use Rattle.printed.proofs.refused_line.Reads as refused-line-reads
 
 enum-told : tie.Need-enum-told
 enum-told c = search needs

@@ -1,17 +1,14 @@
-use Rattle.layout.specs.Size.{entries}
-use Rattle.arena.specs.Encoded.{tableOf}
+-- `word_piece` meets its contract: a word 0 has no line.
 use Prim.Native.Nat.{_+_, _/_}
-use Rattle.dump.proofs.Putting.{none-put, zero-word, past-words, nonzero-word}
-use Rattle.printed.specs.Line.{Puts}
-use denote.Ref.{now}
+use mathlib.Core.Path.{_≡_}
 use native.Mathlib.Omega.{arith}
-use mathlib.Core.Path.{_≡_, sym, subst}
 use borrow.Author.Needs.{needs}
+use denote.Ref.{now}
+use Rattle.arena.specs.Encoded.{tableOf}
+use Rattle.layout.specs.Size.{entries}
+use Rattle.dump.proofs.Putting.{none-put, zero-word, past-words, nonzero-word}
 use Rattle.dump.proofs.word_piece.Statement.{statement}
 use Rattle.dump.proofs.word_piece.Tie as tie
-use Rattle.dump.proofs.word_piece.Reads as reads
-use Rattle.dump.proofs.word_piece.Lts as lts
-use Rattle.printed.proofs.word_line.Reads as word-line-reads
 
 returns : tie.Need-returns
 returns c =

@@ -1,10 +1,8 @@
-use Rattle.printed.specs.Line.{badLine}
+-- `bad_line` meets its contract: the text is put in the front.
 use borrow.Author.Needs.{needs}
+use Rattle.printed.specs.Line.{badLine}
 use Rattle.printed.proofs.bad_line.Statement.{statement}
 use Rattle.printed.proofs.bad_line.Tie as tie
-use Rattle.printed.proofs.bad_line.Reads as reads
-use Rattle.printed.proofs.bad_line.Lts as lts
-use Rattle.printed.proofs.put.Reads as put-reads
 
 slice-aggregate-put : tie.Need-slice-aggregate-put
 slice-aggregate-put c = search needs

@@ -1,15 +1,14 @@
-use denote.Ref.{now}
-use lib.Seq.{paste, paste-zero, paste-suc, length-paste}
-use lib.ListN.{length, set, getD, length-set}
+-- `put` meets its contract: the buffer holds the text up to i.
+use Prim.Native.Nat.{_+_, _-_, _≤_}
+use mathlib.Core.Path.{_≡_, ap, _∙_, refl}
 use native.Mathlib.Numerals.{add-one}
 use native.Mathlib.Omega.{arith}
-use mathlib.Core.Path.{_≡_, ap, _∙_, refl}
-use Prim.Native.Nat.{_+_, _-_, _≤_}
+use lib.ListN.{length, set, getD, length-set}
+use lib.Seq.{paste, paste-zero, paste-suc}
 use borrow.Author.Needs.{needs}
+use denote.Ref.{now}
 use Rattle.printed.proofs.put.Statement.{statement}
 use Rattle.printed.proofs.put.Tie as tie
-use Rattle.printed.proofs.put.Reads as reads
-use Rattle.printed.proofs.put.Lts as lts
 
 abbrev Inv-loop : tie.InvT-loop
 Inv-loop text out₀ at i₀ i-end out i = (i ≤ length text) × (out ≡ paste out₀ at text i) × (length out ≡ length out₀)

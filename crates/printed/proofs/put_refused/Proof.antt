@@ -1,21 +1,18 @@
-use Rattle.printed.proofs.Front.{put-first, put-next}
-use Rattle.printed.proofs.Decimal.{fewest, few}
-use Rattle.printed.specs.Line.{refusedLine, inFront}
-use Rattle.fields.specs.Ascii.{ascii, lineFeed}
-use denote.Ref.{now}
-use lib.Seq.{paste}
-use lib.ListN.{length, take, length-append}
-use native.Mathlib.Omega.{arith}
-use mathlib.Core.Path.{_≡_, sym, ap, ap₂, _∙_}
-use mathlib.Core.List.{[], _∷_, _++_, append-assoc}
+-- `put_refused` meets its contract: three texts, one after the other.
 use Prim.Native.Nat.{_+_, _≤_}
+use mathlib.Core.List.{[], _∷_, _++_, append-assoc}
+use mathlib.Core.Path.{_≡_, sym, ap, ap₂, _∙_}
+use native.Mathlib.Omega.{arith}
+use lib.ListN.{length, take, length-append}
+use lib.Seq.{paste}
 use borrow.Author.Needs.{needs}
+use denote.Ref.{now}
+use Rattle.fields.specs.Ascii.{ascii, lineFeed}
+use Rattle.printed.specs.Line.{refusedLine, inFront}
+use Rattle.printed.proofs.Decimal.{fewest, few}
+use Rattle.printed.proofs.Front.{put-first, put-next}
 use Rattle.printed.proofs.put_refused.Statement.{statement}
 use Rattle.printed.proofs.put_refused.Tie as tie
-use Rattle.printed.proofs.put_refused.Reads as reads
-use Rattle.printed.proofs.put_refused.Lts as lts
-use Rattle.io.proofs.decimal.Reads as decimal-reads
-use Rattle.printed.proofs.put.Reads as put-reads
 
 decimal-requires : tie.Need-decimal-requires
 decimal-requires c κs = search needs

@@ -1,17 +1,14 @@
-use Rattle.printed.proofs.Front.{put-first, word-line-length}
-use Rattle.printed.specs.Line.{inFront}
-use denote.Ref.{now}
-use lib.ListN.{length}
-use native.Mathlib.Omega.{arith}
-use mathlib.Core.Path.{_≡_, ap, _∙_}
+-- `word_line` meets its contract: the line is put in the front.
 use Prim.Native.Nat.{_+_}
+use mathlib.Core.Path.{_≡_, ap, _∙_}
+use native.Mathlib.Omega.{arith}
+use lib.ListN.{length}
 use borrow.Author.Needs.{needs}
+use denote.Ref.{now}
+use Rattle.printed.specs.Line.{inFront}
+use Rattle.printed.proofs.Front.{put-first, word-line-length}
 use Rattle.printed.proofs.word_line.Statement.{statement}
 use Rattle.printed.proofs.word_line.Tie as tie
-use Rattle.printed.proofs.word_line.Reads as reads
-use Rattle.printed.proofs.word_line.Lts as lts
-use Rattle.printed.proofs.put.Reads as put-reads
-use Rattle.printed.proofs.spelled_word.Reads as spelled-word-reads
 
 spelled-word-requires : tie.Need-spelled-word-requires
 spelled-word-requires c κs = search needs

@@ -1,16 +1,12 @@
-use Rattle.printed.proofs.Front.{lies-within}
-use lib.Seq.{length-take-le}
-use mathlib.Core.Path.{sym}
-use Rattle.layout.specs.Size.{arenaLength}
+-- `main` is safe and ends: each piece lies in its buffer.
 use Prim.Native.Nat.{_-_}
+use mathlib.Core.Path.{sym}
+use lib.Seq.{length-take-le}
 use borrow.Author.Needs.{needs}
+use Rattle.layout.specs.Size.{arenaLength}
+use Rattle.printed.proofs.Front.{lies-within}
 use Rattle.s2dump.proofs.main.Statement.{statement}
 use Rattle.s2dump.proofs.main.Tie as tie
-use Rattle.s2dump.proofs.main.Reads as reads
-use Rattle.s2dump.proofs.main.Lts as lts
-use Rattle.dump.proofs.piece.Reads as piece-reads
-use Rattle.io.proofs.write_all.Reads as write-all-reads
-use Rattle.s2dump.proofs.read_dump.Reads as read-dump-reads
 
 abbrev Inv-loop : tie.InvT-loop
 Inv-loop answer words line₀ i₀ line i = Unit {0}

@@ -1,12 +1,9 @@
-use Rattle.dump.specs.Dump.{printedRead, dump}
+-- `read_dump` meets its contract: the scene is that of some text.
 use mathlib.Core.Path.{ap, _∙_}
 use borrow.Author.Needs.{needs}
+use Rattle.dump.specs.Dump.{printedRead, dump}
 use Rattle.s2dump.proofs.read_dump.Statement.{statement}
 use Rattle.s2dump.proofs.read_dump.Tie as tie
-use Rattle.s2dump.proofs.read_dump.Reads as reads
-use Rattle.s2dump.proofs.read_dump.Lts as lts
-use Rattle.dump.proofs.Dump.of.Reads as of-reads
-use Rattle.scene_read.proofs.read_scene.Reads as read-scene-reads
 
 slice-aggregate-read-scene : tie.Need-slice-aggregate-read-scene
 slice-aggregate-read-scene c = search needs

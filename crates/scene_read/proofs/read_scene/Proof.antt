@@ -1,23 +1,17 @@
-use Rattle.scene_read.proofs.Pieces.{more}
+-- `read_scene` meets its contract: what has been read so far is some text, and each piece is one piece more of it.
+use Prim.Native.Nat.{ℕ}
+use mathlib.Core.List.{List, [], _++_}
+use mathlib.Core.Path.{_≡_, refl, sym, ap, _∙_}
+use native.Mathlib.Omega.{arith}
+use lib.ListN.{length, take}
+use borrow.Author.Needs.{needs}
+use denote.Ref.{now}
+use Rattle.scene.specs.Scene.{scene}
 use Rattle.scene_text.proofs.Lines.{reads-lines}
 use Rattle.scene_text.specs.Reading.{reading, takenAll, finished, readingOf}
-use Rattle.scene.specs.Scene.{Scene, scene}
-use denote.Ref.{now}
-use lib.ListN.{length, take}
-use native.Mathlib.Omega.{arith}
-use mathlib.Core.Path.{_≡_, refl, sym, ap, _∙_}
-use mathlib.Core.List.{List, [], _++_}
-use Prim.Native.Nat.{ℕ}
-use borrow.Author.Needs.{needs}
+use Rattle.scene_read.proofs.Pieces.{more}
 use Rattle.scene_read.proofs.read_scene.Statement.{statement}
 use Rattle.scene_read.proofs.read_scene.Tie as tie
-use Rattle.scene_read.proofs.read_scene.Reads as reads
-use Rattle.scene_read.proofs.read_scene.Lts as lts
-use Rattle.io.proofs.buffer.Reads as buffer-reads
-use Rattle.io.proofs.count.Reads as count-reads
-use Rattle.libc.proofs.read.Reads as read-reads
-use Rattle.scene_text.proofs.finish.Reads as finish-reads
-use Rattle.scene_text.proofs.take.Reads as take-reads
 
 abbrev Inv-loop : tie.InvT-loop
 Inv-loop numbers₀ base₀ sup₀ piece₀ line₀ len₀ left₀ numbers base sup piece line len left =

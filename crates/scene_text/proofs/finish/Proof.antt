@@ -1,19 +1,16 @@
-use lib.Seq.{length-take-le}
-use native.Mathlib.Omega.{arith}
-use Rattle.scene_text.proofs.Kept.{all-kept, last-line}
-use Rattle.scene_text.specs.Reading.{reading, finished}
-use Rattle.scene.specs.Scene.{scene}
-use denote.Ref.{now}
-use lib.ListN.{length, take}
-use mathlib.Core.Path.{_≡_, sym, ap, _∙_}
+-- `finish` meets its contract: what is kept is a line, if there is something.
 use Prim.Native.Nat.{min}
+use mathlib.Core.Path.{_≡_, sym, ap, _∙_}
+use native.Mathlib.Omega.{arith}
+use lib.ListN.{length, take}
+use lib.Seq.{length-take-le}
 use borrow.Author.Needs.{needs}
+use denote.Ref.{now}
+use Rattle.scene.specs.Scene.{scene}
+use Rattle.scene_text.specs.Reading.{reading, finished}
+use Rattle.scene_text.proofs.Kept.{all-kept, last-line}
 use Rattle.scene_text.proofs.finish.Statement.{statement}
 use Rattle.scene_text.proofs.finish.Tie as tie
-use Rattle.scene_text.proofs.finish.Reads as reads
-use Rattle.scene_text.proofs.finish.Lts as lts
-use Rattle.scene_text.proofs.least.Reads as least-reads
-use Rattle.scene_text.proofs.set.Reads as set-reads
 
 least-requires : tie.Need-least-requires
 least-requires c κs = search needs

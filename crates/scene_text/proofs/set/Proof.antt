@@ -1,17 +1,13 @@
-use Rattle.scene_text.proofs.Kept.{set-heard}
-use Rattle.scene_text.specs.Text.{heard}
-use Rattle.scene_text.specs.Reading.{readOf}
-use Rattle.scene.specs.Scene.{scene}
-use denote.Ref.{now}
+-- `set` meets its contract: a bad line sets nothing.
 use mathlib.Core.Path.{ap, ap₂, _∙_}
 use borrow.Author.Needs.{needs}
+use denote.Ref.{now}
+use Rattle.scene.specs.Scene.{scene}
+use Rattle.scene_text.specs.Reading.{readOf}
+use Rattle.scene_text.specs.Text.{heard}
+use Rattle.scene_text.proofs.Kept.{set-heard}
 use Rattle.scene_text.proofs.set.Statement.{statement}
 use Rattle.scene_text.proofs.set.Tie as tie
-use Rattle.scene_text.proofs.set.Reads as reads
-use Rattle.scene_text.proofs.set.Lts as lts
-use Rattle.scene.proofs.apply.Reads as apply-reads
-use Rattle.scene_line.proofs.Line.says.Reads as says-reads
-use Rattle.scene_line.proofs.line_of.Reads as line-of-reads
 
 line-of-requires : tie.Need-line-of-requires
 line-of-requires c κs = search needs

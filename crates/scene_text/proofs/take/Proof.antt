@@ -1,18 +1,15 @@
-use Rattle.scene_text.proofs.Kept.{all-kept, stays, byte-none, after-byte}
-use Rattle.scene_text.specs.Reading.{reading, takenAll, readingOf, Fits, taken}
-use Rattle.scene.specs.Scene.{scene}
-use denote.Ref.{now}
-use lib.ListN.{length, take, drop, getD}
-use native.Mathlib.Omega.{arith}
-use mathlib.Core.Path.{_≡_, refl, sym, ap, subst, _∙_}
+-- `take` meets its contract: what is still to be read of the piece, from what is kept, is read as the whole is.
 use Prim.Native.Nat.{_+_, _-_, _≤_}
+use mathlib.Core.Path.{_≡_, refl, sym, ap, subst, _∙_}
+use native.Mathlib.Omega.{arith}
+use lib.ListN.{length, take, drop, getD}
 use borrow.Author.Needs.{needs}
+use denote.Ref.{now}
+use Rattle.scene.specs.Scene.{scene}
+use Rattle.scene_text.specs.Reading.{reading, takenAll, readingOf, Fits, taken}
+use Rattle.scene_text.proofs.Kept.{all-kept, stays, byte-none, after-byte}
 use Rattle.scene_text.proofs.take.Statement.{statement}
 use Rattle.scene_text.proofs.take.Tie as tie
-use Rattle.scene_text.proofs.take.Reads as reads
-use Rattle.scene_text.proofs.take.Lts as lts
-use Rattle.scene_text.proofs.least.Reads as least-reads
-use Rattle.scene_text.proofs.take_byte.Reads as take-byte-reads
 
 abbrev Inv-loop : tie.InvT-loop
 Inv-loop piece line₀ kept numbers₀ base₀ sup₀ len₀ i₀ i-end line numbers base sup len i =

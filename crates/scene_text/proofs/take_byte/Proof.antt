@@ -1,17 +1,15 @@
+-- `take_byte` meets its contract: a line feed ends the line, and another byte is kept where there is room.
+use mathlib.Core.Path.{sym, ap, _∙_}
 use native.Mathlib.Omega.{arith}
-use Rattle.scene_text.proofs.Kept.{line-ended, line-goes-on, one-kept, none-kept}
-use Rattle.scene_text.specs.Reading.{reading, onward}
-use Rattle.scene.specs.Scene.{scene}
-use denote.Ref.{now}
 use lib.ListN.{length, take, length-set}
 use lib.Seq.{length-take-le}
-use mathlib.Core.Path.{_≡_, sym, ap, _∙_}
 use borrow.Author.Needs.{needs}
+use denote.Ref.{now}
+use Rattle.scene.specs.Scene.{scene}
+use Rattle.scene_text.specs.Reading.{reading, onward}
+use Rattle.scene_text.proofs.Kept.{line-ended, line-goes-on, one-kept, none-kept}
 use Rattle.scene_text.proofs.take_byte.Statement.{statement}
 use Rattle.scene_text.proofs.take_byte.Tie as tie
-use Rattle.scene_text.proofs.take_byte.Reads as reads
-use Rattle.scene_text.proofs.take_byte.Lts as lts
-use Rattle.scene_text.proofs.set.Reads as set-reads
 
 slice-reshare-prefix-set : tie.Need-slice-reshare-prefix-set
 slice-reshare-prefix-set c = search needs

@@ -1,20 +1,16 @@
-use Rattle.dump.proofs.Whole.{Encodes, words-pieces, refused-printed}
-use Rattle.dump.specs.declared.Answer.the-variants.{Refused}
-use Rattle.dump.specs.Pieces.{pieces}
-use Rattle.dump.specs.Dump.{printedOf}
-use Rattle.refusal.specs.Outcome.{outcomeOf}
-use Rattle.layout.specs.Layout.{layoutOf}
-use denote.Ref.{now}
+-- `Dump::encoded` meets its contract: by what the encoding answers.
+use mathlib.Core.Path.{ap, subst, _∙_}
 use lib.ListN.{getD}
-use mathlib.Core.Path.{_≡_, ap, subst, _∙_}
 use borrow.Author.Needs.{needs}
+use denote.Ref.{now}
+use Rattle.layout.specs.Layout.{layoutOf}
+use Rattle.refusal.specs.Outcome.{outcomeOf}
+use Rattle.dump.specs.Dump.{printedOf}
+use Rattle.dump.specs.Pieces.{pieces}
+use Rattle.dump.specs.declared.Answer.the-variants.{Refused}
+use Rattle.dump.proofs.Whole.{Encodes, words-pieces, refused-printed}
 use Rattle.dump.proofs.Dump.encoded.Statement.{statement}
 use Rattle.dump.proofs.Dump.encoded.Tie as tie
-use Rattle.dump.proofs.Dump.encoded.Reads as reads
-use Rattle.dump.proofs.Dump.encoded.Lts as lts
-use Rattle.encode.proofs.encode_at.Reads as encode-at-reads
-use Rattle.layout.proofs.Layout.of.Reads as of-reads
-use Rattle.refusal.proofs.Refusal.words.Reads as words-reads
 
 of-requires : tie.Need-of-requires
 of-requires c κs = search needs

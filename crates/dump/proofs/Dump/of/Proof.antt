@@ -1,15 +1,12 @@
-use Rattle.dump.proofs.Whole.{bad-pieces}
-use Rattle.layout.specs.Size.{arenaLength}
-use lib.ListN.{replicate, length-replicate}
-use native.Mathlib.Omega.{arith}
-use mathlib.Core.Path.{_≡_, sym, ap, _∙_}
+-- `Dump::of` meets its contract: a bad line comes before all rows.
 use Prim.Native.Nat.{ℕ}
+use native.Mathlib.Omega.{arith}
+use lib.ListN.{replicate, length-replicate}
 use borrow.Author.Needs.{needs}
+use Rattle.layout.specs.Size.{arenaLength}
+use Rattle.dump.proofs.Whole.{bad-pieces}
 use Rattle.dump.proofs.Dump.of.Statement.{statement}
 use Rattle.dump.proofs.Dump.of.Tie as tie
-use Rattle.dump.proofs.Dump.of.Reads as reads
-use Rattle.dump.proofs.Dump.of.Lts as lts
-use Rattle.dump.proofs.Dump.encoded.Reads as encoded-reads
 
 encoded-requires : tie.Need-encoded-requires
 encoded-requires c κs = search needs
