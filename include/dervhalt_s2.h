@@ -129,9 +129,9 @@ uint32_t s2_encode(
 /* One step of an update to the tables of a layout and two maps: rows 1 to 14, then 26. A step makes one store: below S2_ARENA_LEN, 0 at
  * word `step`; from there on, at word S2_STEPS - 1 - `step`, what encoding into zeros leaves there. Steps are made in order, from 0 on, and
  * an update that was cut is begun again at 0. Up to half-way, S2_ARENA_LEN stores, an address reaches what it reached before the update or
- * nothing; from there on what it is granted or nothing; after the last store what it is granted. For this, the layout, and the edges that
- * the maps are filled from, are the same through one update, the table addresses through all, and nothing else stores to the arena. Barriers
- * and cached translations are the caller's. */
+ * nothing; from there on what it is granted or nothing; after the last store what it is granted. For this, the layout, and the edges, frames
+ * and domain that both maps are filled from, are the same through one update, the table addresses through all, and nothing else stores to
+ * the arena. Barriers and cached translations are the caller's. */
 uint32_t s2_step(
     uint64_t *arena, size_t arena_len,
     const uint8_t *base, size_t base_len,
