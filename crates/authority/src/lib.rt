@@ -1,18 +1,20 @@
 // Whether a domain may reach every frame that a map maps (hv-s2's check.rs).
 use edge::Grant;
 use p2m::Owner;
+use perm::Entry;
 use perm::Perm;
 use refusal::Refusal;
 use refusal::Verdict;
 ghost use Prim.Native.Nat.{_≤_};
-ghost use mathlib.Core.List.{[], _∷_, map};
+ghost use mathlib.Core.List.{map};
 ghost use mathlib.Core.Path.{_≡_};
 ghost use lib.ListN.{length};
 ghost use Rattle.authority.specs.Authority.{granted, reachRows, authorityRows};
 ghost use Rattle.edge.specs.Grant.{grantOf};
 ghost use Rattle.layout.specs.Size.{entries};
-ghost use Rattle.refusal.specs.Outcome.{outcomeOf};
-ghost use Rattle.refusal.specs.Table.{row, refused, first, eachFrom};
+ghost use Rattle.refusal.specs.Outcome.{outcomeOf, rowOf};
+ghost use Rattle.refusal.specs.Table.{refused, first, eachFrom};
+ghost use Rattle.refusal.specs.declared.Refusal.the-variants.{UnauthorizedMapping};
 
 // Each mapped frame is the domain's own, or granted by its owner for the mapped access. Grants are rows of their four fields.
 pub fn check_authorized_with(
@@ -48,16 +50,17 @@ fn all_reached(dom: u16, leaves: &[u8], frames: &[[u32; 2]], grants: &[[u32; 4]]
 fn reached(dom: u16, mfn: u32, entry: u8, frames: &[[u32; 2]], grants: &[[u32; 4]]) -> Verdict
     ensures { λ r. ⌜ outcomeOf r ≡ first (reachRows (now (frames .entry)) (map grantOf (now (grants .entry))) dom mfn entry) ⌝ }
 {
-    if entry == 0 {
+    let Entry::Mapped(perm) = Entry::of(entry) else {
         return Verdict::Accepted;
-    }
+    };
     if edge::owns(frames, mfn, dom) {
         return Verdict::Accepted;
     }
-    let Owner::Domain(owner) = p2m::owner_of(frames, mfn) else {
-        return unauthorized(dom, mfn, 0, 0, entry);
+    let found = p2m::owner_of(frames, mfn);
+    let Owner::Domain(owner) = found else {
+        return unauthorized(dom, mfn, found, perm);
     };
-    if granted(grants, owner, dom, mfn, entry == Perm::Rw.code()) {
+    if granted(grants, owner, dom, mfn, perm.writable()) {
         return Verdict::Accepted;
     }
     // Where reading is granted, the entry was for writing.
@@ -68,18 +71,17 @@ fn reached(dom: u16, mfn: u32, entry: u8, frames: &[[u32; 2]], grants: &[[u32; 4
             owner: owner as u64,
         });
     }
-    unauthorized(dom, mfn, 1, owner, entry)
+    unauthorized(dom, mfn, found, perm)
 }
 
-fn unauthorized(dom: u16, mfn: u32, owned: u8, owner: u16, entry: u8) -> Verdict
-    ensures { λ r. ⌜ outcomeOf r ≡ refused (row 23 (dom ∷ mfn ∷ owned ∷ owner ∷ entry ∷ [])) ⌝ }
+fn unauthorized(dom: u16, mfn: u32, owner: Owner, perm: Perm) -> Verdict
+    ensures { λ r. ⌜ outcomeOf r ≡ refused (rowOf (UnauthorizedMapping dom mfn owner perm)) ⌝ }
 {
     Verdict::Refused(Refusal::UnauthorizedMapping {
         dom: dom as u64,
         mfn: mfn as u64,
-        owned: owned as u64,
-        owner: owner as u64,
-        perm: entry as u64,
+        owner,
+        perm,
     })
 }
 

@@ -10,7 +10,10 @@ use Rattle.p2m.specs.Frame.{kindAt, spanCode, spanOfKind}
 use Rattle.p2m.specs.declared.Span.{Span}
 use Rattle.p2m.specs.declared.TableSpan.{TableSpan}
 use Rattle.p2m.specs.declared.TableSpan.the-variants.{Leaves, Unsupported}
-use Rattle.refusal.specs.Table.{Row, refuseIf, eachFrom, table}
+use Rattle.perm.specs.Perm.{entryNamed}
+use Rattle.refusal.specs.Outcome.{refuse}
+use Rattle.refusal.specs.Table.{Row, eachFrom, table}
+use Rattle.refusal.specs.declared.Refusal.the-variants.{Inexact}
 use Rattle.rows.specs.Rows.{readRows}
 
 abbrev pub isSpan : Span → TableSpan → Bool
@@ -34,7 +37,7 @@ expected frames dom s edges m = afterEdges frames dom s m 0 edges
 
 -- row 25: an entry is not the expected one
 unfoldable pub row25 : ℕ → (ℕ → ℕ) → ℕ → ℕ → List Row
-row25 dom wanted m entry = refuseIf (not (eqb entry (wanted m))) 25 (dom ∷ m ∷ entry ∷ wanted m ∷ [])
+row25 dom wanted m entry = refuse (not (eqb entry (wanted m))) (Inexact dom m (entryNamed entry) (entryNamed (wanted m)))
 
 -- 2 and 3 first, the map's code being the span's; then the lowest frame first
 unfoldable pub comparedRows : ℕ → Span → (ℕ → ℕ) → List ℕ → List Row

@@ -3,6 +3,7 @@ use edge::Edge;
 use layout::Layout;
 use p2m::Span;
 use p2m::TableSpan;
+use perm::Entry;
 use refusal::Refusal;
 use refusal::Verdict;
 ghost use Prim.Native.Nat.{ℕ, _≤_, _<_};
@@ -12,8 +13,10 @@ ghost use lib.ListN.{length, getD, replicate};
 ghost use Rattle.edge.specs.Edge.{edgesOf};
 ghost use Rattle.exact.specs.Exact.{lands, afterEdge, expected, row25, comparedRows, exactRows};
 ghost use Rattle.layout.specs.Size.{entries};
-ghost use Rattle.refusal.specs.Outcome.{outcomeOf};
-ghost use Rattle.refusal.specs.Table.{first, eachFrom};
+ghost use Rattle.perm.specs.Perm.{entryNamed};
+ghost use Rattle.refusal.specs.Outcome.{outcomeOf, rowOf};
+ghost use Rattle.refusal.specs.Table.{refused, first, eachFrom};
+ghost use Rattle.refusal.specs.declared.Refusal.the-variants.{Inexact};
 
 // Each entry is that of the last edge into its frame. Edges are rows of their six fields.
 pub fn check_exact(
@@ -56,15 +59,21 @@ fn same_entries(dom: u16, leaves: &[u8], wanted: &[u8]) -> Verdict
         let mapped = leaves[m];
         let expected = wanted[m];
         if mapped != expected {
-            return Verdict::Refused(Refusal::Inexact {
-                dom: dom as u64,
-                mfn: m as u64,
-                mapped: mapped as u64,
-                expected: expected as u64,
-            });
+            return inexact(dom, m, mapped, expected);
         }
     }
     Verdict::Accepted
+}
+
+fn inexact(dom: u16, m: usize, mapped: u8, expected: u8) -> Verdict
+    ensures { λ r. ⌜ outcomeOf r ≡ refused (rowOf (Inexact dom m (entryNamed mapped) (entryNamed expected))) ⌝ }
+{
+    Verdict::Refused(Refusal::Inexact {
+        dom: dom as u64,
+        mfn: m as u64,
+        mapped: Entry::of(mapped),
+        expected: Entry::of(expected),
+    })
 }
 
 fn all_same(leaves: &[u8], wanted: &[u8]) -> bool

@@ -8,16 +8,21 @@ use lib.Dec.{eqb}
 use lib.ListN.{getD}
 use borrow.Author.Tests.{eqb-true, eq-eqb, not-false}
 use Rattle.authority.proofs.Grants.{reading}
-use Rattle.authority.proofs.Owned.{allowed, unmapped}
-use Rattle.authority.specs.Authority.{granted, reaches, writes, row23, ownerRows, reachRows, authorityRows}
+use Rattle.authority.proofs.Owned.{allowed, unmapped, of-owner}
+use Rattle.authority.specs.Authority.{granted, reaches, row23, ownerRows, reachRows, authorityRows}
 use Rattle.edge.specs.Grant.{covers}
 use Rattle.edge.specs.declared.Grant.{Grant}
-use Rattle.fields.specs.Numbers.{nonzero}
 use Rattle.p2m.specs.Frame.{ownerOf}
 use Rattle.p2m.specs.declared.Owner.{Owner}
 use Rattle.p2m.specs.declared.Owner.the-variants.{Domain, Nobody}
-use Rattle.refusal.proofs.None.{none, both, test, accept, from-none, from-nowhere}
+use Rattle.perm.specs.Perm.{permWrites, entryNamed}
+use Rattle.perm.specs.declared.Entry.the-variants.{Mapped, Unmapped}
+use Rattle.perm.specs.declared.Entry.{Entry}
+use Rattle.perm.specs.declared.Perm.{Perm}
+use Rattle.refusal.proofs.None.{none, both, only, accept, from-none, from-nowhere}
+use Rattle.refusal.specs.Outcome.{rowOf}
 use Rattle.refusal.specs.Table.{accepted, first, eachFrom}
+use Rattle.refusal.specs.declared.Refusal.the-variants.{UnauthorizedMapping, WriteEscalation}
 use Rattle.rows.specs.Rows.{readRows}
 use Rattle.leaves.specs.Authorized.{Granted, MayReach, Authorized, AcceptsAuthorized}
 
@@ -122,48 +127,56 @@ module _ (frames : List (List ℕ)) (grants : List Grant) (dom m : ℕ) (w : Boo
       ap (reaches grants dom m w) (g .owns)
       ∙ or-right (eqb (g .owner) dom) _ (from-list (g .owner) dom m w grants (g .grants-it)))
 
--- the tests of rows 23 and 24: t mapped, w for writing, r and x what may be reached for reading and for writing
-let-by :
-    (t w r x : Bool) →
-    (t && not r) ≡ false → (w && r && not x) ≡ false → t ≡ true → (r ≡ true) × (w ≡ true → x ≡ true)
-let-by true w true x a b e = (refl, λ h. not-false x (sym (ap (λ v. v && true && not x) h) ∙ b))
-let-by true w false x a b e = absurd (false≢true (sym a))
-let-by false w r x a b e = absurd (false≢true e)
+-- the tests of rows 23 and 24: w for writing, r and x what may be reached for reading and for writing
+let-by : (w r x : Bool) → not r ≡ false → (w && r && not x) ≡ false → (r ≡ true) × (w ≡ true → x ≡ true)
+let-by w true x a b = (refl, λ h. not-false x (sym (ap (λ v. v && true && not x) h) ∙ b))
+let-by w false x a b = absurd (false≢true (sym a))
 
-module _ (frames : List (List ℕ)) (grants : List Grant) (dom m entry : ℕ) where
+module _ (grants : List Grant) (dom m : ℕ) (p : Perm) where
   at-access :
-      (w : Bool) →
-      (reaches grants dom m false (ownerOf frames m) ≡ true)
-      × (w ≡ true → reaches grants dom m true (ownerOf frames m) ≡ true) →
-      reaches grants dom m w (ownerOf frames m) ≡ true
-  at-access true p = p .1 refl
-  at-access false p = p .0
+      (w : Bool) (o : Owner) →
+      (reaches grants dom m false o ≡ true) × (w ≡ true → reaches grants dom m true o ≡ true) → reaches grants dom m w o ≡ true
+  at-access true o e = e .1 refl
+  at-access false o e = e .0
 
+  no-owner-row : (o : Owner) → ownerRows grants dom m (Mapped p) o ≡ [] → reaches grants dom m (permWrites p) o ≡ true
+  unfolding ownerRows
+  no-owner-row (Domain o) e =
+      let rows = both (row23 grants dom m p (Domain o)) _ e in
+      at-access (permWrites p) (Domain o)
+      (let-by (permWrites p) (reaches grants dom m false (Domain o)) (reaches grants dom m true (Domain o))
+      (only _ (rowOf (UnauthorizedMapping dom m (Domain o) p)) (rows .0))
+      (only _ (rowOf (WriteEscalation dom m o)) (rows .1)))
+  no-owner-row Nobody e =
+      absurd (false≢true (sym (only true (rowOf (UnauthorizedMapping dom m Nobody p)) (both (row23 grants dom m p Nobody) _ e .0))))
+
+module _ (frames : List (List ℕ)) (grants : List Grant) (dom m byte : ℕ) where
   pub no-row-reaches :
-      reachRows frames grants dom m entry ≡ [] → nonzero entry ≡ true → MayReach frames grants dom m (writes entry)
-  unfolding reachRows ownerRows
-  no-row-reaches e n =
-      let rows = both (row23 grants dom m entry (ownerOf frames m)) _ e in
-      let tests = let-by (nonzero entry) (writes entry) _ _ (test _ _ _ (rows .0)) (test _ _ _ (rows .1)) n in
-      may-reach frames grants dom m (writes entry) (at-access (writes entry) tests)
+      reachRows frames grants dom m byte ≡ [] →
+      (p : Perm) → entryNamed byte ≡ Mapped p → MayReach frames grants dom m (permWrites p)
+  no-row-reaches e p mapped =
+      may-reach frames grants dom m (permWrites p)
+      (no-owner-row grants dom m p (ownerOf frames m)
+      (sym (of-owner frames grants dom m byte p mapped (ownerOf frames m) refl) ∙ e))
 
   pub reaches-no-row :
-      (nonzero entry ≡ true → MayReach frames grants dom m (writes entry)) → reachRows frames grants dom m entry ≡ []
-  unfolding reachRows
-  reaches-no-row may = go (nonzero entry) refl
+      ((p : Perm) → entryNamed byte ≡ Mapped p → MayReach frames grants dom m (permWrites p)) →
+      reachRows frames grants dom m byte ≡ []
+  reaches-no-row may = go (entryNamed byte) refl
     where
-      go : (t : Bool) → nonzero entry ≡ t → reachRows frames grants dom m entry ≡ []
-      go true n =
-          allowed grants dom m entry (ownerOf frames m) (reached frames grants dom m (writes entry) (may n))
-      go false n = none _ (unmapped grants dom m entry (ownerOf frames m) (eqb-true entry 0 (not-false _ n)))
+      go : (e : Entry) → entryNamed byte ≡ e → reachRows frames grants dom m byte ≡ []
+      go (Mapped p) e =
+          of-owner frames grants dom m byte p e (ownerOf frames m) refl
+          ∙ allowed grants dom m p (ownerOf frames m) (reached frames grants dom m (permWrites p) (may p e))
+      go Unmapped e = unmapped frames grants dom m byte e
 
 sound :
     (frames : List (List ℕ)) (grants : List Grant) (dom : ℕ) (map : List ℕ) →
     first (authorityRows frames grants dom map) ≡ accepted → Authorized frames grants dom map
 unfolding authorityRows flatMap
-sound frames grants dom map e m inside n =
+sound frames grants dom map e m inside p mapped =
     let rows = both (eachFrom (reachRows frames grants dom) 0 map) _ (both (readRows 1 map) _ (none _ e) .1) .0 in
-    no-row-reaches frames grants dom m (getD map m 0) (from-none (reachRows frames grants dom) map 0 rows m inside) n
+    no-row-reaches frames grants dom m (getD map m 0) (from-none (reachRows frames grants dom) map 0 rows m inside) p mapped
 
 complete :
     (frames : List (List ℕ)) (grants : List Grant) (dom : ℕ) (map : List ℕ) →

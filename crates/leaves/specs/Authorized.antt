@@ -5,11 +5,13 @@ use mathlib.Core.List.{List, List·Memᴰ}
 use mathlib.Core.Logic.{_⊎_}
 use mathlib.Core.Path.{_≡_}
 use lib.ListN.{length, getD}
-use Rattle.authority.specs.Authority.{writes, authorityRows}
+use Rattle.authority.specs.Authority.{authorityRows}
 use Rattle.edge.specs.declared.Grant.{Grant}
-use Rattle.fields.specs.Numbers.{nonzero}
 use Rattle.p2m.specs.Frame.{ownerOf}
 use Rattle.p2m.specs.declared.Owner.the-variants.{Domain}
+use Rattle.perm.specs.Perm.{permWrites, entryNamed}
+use Rattle.perm.specs.declared.Entry.the-variants.{Mapped}
+use Rattle.perm.specs.declared.Perm.{Perm}
 use Rattle.refusal.specs.Table.{accepted, first}
 use Rattle.rows.specs.Rows.{readRows}
 
@@ -32,7 +34,7 @@ MayReach frames grants dom m w = (ownerOf frames m ≡ Domain dom) ⊎ GrantedBy
 
 abbrev pub Authorized : List (List ℕ) → List Grant → ℕ → List ℕ → Type 0
 Authorized frames grants dom map =
-    (m : ℕ) → m < length map → nonzero (getD map m 0) ≡ true → MayReach frames grants dom m (writes (getD map m 0))
+    (m : ℕ) → m < length map → (p : Perm) → entryNamed (getD map m 0) ≡ Mapped p → MayReach frames grants dom m (permWrites p)
 
 -- of a map that may be read, `check_authorized_with` accepts exactly the authorized
 pub record AcceptsAuthorized : Type 0 where

@@ -1,3 +1,4 @@
+pub mod Carried
 pub mod First
 pub mod None
 pub mod Parts

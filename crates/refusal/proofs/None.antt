@@ -7,7 +7,7 @@ use native.Mathlib.Nat.{le-of-suc-le-suc, not-suc-le-zero}
 use native.Mathlib.Omega.{arith}
 use lib.ListN.{length, getD}
 use Rattle.refusal.specs.All.{All, AllPairs}
-use Rattle.refusal.specs.Table.{Row, accepted, refused, first, given, refuseIf, each, eachFrom, pairs}
+use Rattle.refusal.specs.Table.{Row, row, accepted, refused, first, given, refuseIf, each, eachFrom, pairs}
 
 pub none : (rows : List Row) → first rows ≡ accepted → rows ≡ []
 unfolding first
@@ -25,9 +25,12 @@ pub both : (xs ys : List Row) → xs ++ ys ≡ [] → (xs ≡ []) × (ys ≡ [])
 both [] ys e = (refl, e)
 both (x ∷ xs) ys e = absurd (let z : _≡_ {A = ℕ} 0 1 = cc in omega arith)
 
+pub only : (t : Bool) (r : Row) → given t (r ∷ []) ≡ [] → t ≡ false
+only true r e = absurd (let z : _≡_ {A = ℕ} 0 1 = cc in omega arith)
+only false r e = refl
+
 pub test : (t : Bool) (n : ℕ) (vs : List ℕ) → refuseIf t n vs ≡ [] → t ≡ false
-test true n vs e = absurd (let z : _≡_ {A = ℕ} 0 1 = cc in omega arith)
-test false n vs e = refl
+test t n vs e = only t (row n vs) e
 
 pub under : (t : Bool) (rows : List Row) → t ≡ true → given t rows ≡ [] → rows ≡ []
 under true rows h e = e

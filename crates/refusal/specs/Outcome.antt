@@ -1,12 +1,40 @@
 -- The number and the values of each case of `Refusal`, by document 01's table.
 use Prim.Native.Nat.{ℕ}
-use mathlib.Core.List.{List, [], _∷_}
-use Rattle.fields.specs.Numbers.{eight}
-use Rattle.refusal.specs.Table.{Row, row, Outcome, accepted, refused}
+use mathlib.Core.Bool.{Bool}
+use mathlib.Core.List.{List, [], _∷_, _++_}
+use Rattle.decode.specs.declared.DecodedLeaf.the-variants.{Leaf, Nothing as NoLeaf}
+use Rattle.decode.specs.declared.DecodedLeaf.{DecodedLeaf}
+use Rattle.decode.specs.declared.DecodedTable.the-variants.{At, Nothing as NoTable}
+use Rattle.decode.specs.declared.DecodedTable.{DecodedTable}
+use Rattle.fields.specs.Numbers.{eight, bit}
+use Rattle.p2m.specs.declared.Owner.the-variants.{Domain, Nobody}
+use Rattle.p2m.specs.declared.Owner.{Owner}
+use Rattle.perm.specs.Perm.{permCode, entryCode}
+use Rattle.refusal.specs.Table.{Row, row, Outcome, accepted, refused, given}
 use Rattle.refusal.specs.declared.Refusal.{Refusal}
 use Rattle.refusal.specs.declared.Refusal.the-variants.{ArenaLength, MapLength, MapCode, DeviceWindowUnaligned, GranuleNotEmitted, WindowUnaligned, TableUnnameable, SuperFramesUncountable, RegionCrossesL1, OutputPastLimit, RegionsCollide, WindowsOverlap, TablesEqual, SuperUnbacked, UnsupportedSpan, OutOfRange, SpanConflict, BadTableEntry, BadImageBlock, BadLeaf, SpuriousDescriptor, BadDeviceBlock, UnauthorizedMapping, WriteEscalation, Inexact, StepPastLast}
 use Rattle.refusal.specs.declared.Verdict.{Verdict}
 use Rattle.refusal.specs.declared.Verdict.the-variants.{Accepted, Refused}
+
+-- what may be none, as a refusal carries it: 1 and its values, or zeros. A table is told by its address
+abbrev pub tableValues : DecodedTable → List ℕ
+tableValues (At pa) = 1 ∷ pa ∷ []
+tableValues NoTable = 0 ∷ 0 ∷ []
+
+-- a leaf that is found: its address, access (1 Ro, 2 Rw) and execute bit, whatever else a decoder tells
+abbrev pub leafValues : DecodedLeaf → List ℕ
+leafValues (Leaf a) = 1 ∷ a .pa ∷ permCode (a .perm) ∷ bit (a .xn) ∷ []
+leafValues NoLeaf = 0 ∷ 0 ∷ 0 ∷ 0 ∷ []
+
+-- one that is wanted: its address and access
+abbrev pub wantedValues : DecodedLeaf → List ℕ
+wantedValues (Leaf a) = 1 ∷ a .pa ∷ permCode (a .perm) ∷ []
+wantedValues NoLeaf = 0 ∷ 0 ∷ 0 ∷ []
+
+-- an owner: the domain's number
+abbrev pub ownerValues : Owner → List ℕ
+ownerValues (Domain owner) = 1 ∷ owner ∷ []
+ownerValues Nobody = 0 ∷ 0 ∷ []
 
 abbrev pub rowOf : Refusal → Row
 rowOf ArenaLength = row 1 []
@@ -26,16 +54,19 @@ rowOf (SuperUnbacked position) = row 14 (position ∷ [])
 rowOf (UnsupportedSpan parent) = row 15 (parent ∷ [])
 rowOf (OutOfRange mfn capacity) = row 16 (mfn ∷ capacity ∷ [])
 rowOf (SpanConflict mfn) = row 17 (mfn ∷ [])
-rowOf (BadTableEntry table index found pa expected) = row 18 (table ∷ index ∷ found ∷ pa ∷ expected ∷ [])
-rowOf (BadImageBlock found pa access never expected) = row 19 (found ∷ pa ∷ access ∷ never ∷ expected ∷ [])
-rowOf (BadLeaf mfn found pa access never expects expectedPa expectedAccess) =
-    row 20 (mfn ∷ found ∷ pa ∷ access ∷ never ∷ expects ∷ expectedPa ∷ expectedAccess ∷ [])
+rowOf (BadTableEntry table index found expected) = row 18 (table ∷ index ∷ (tableValues found ++ (expected ∷ [])))
+rowOf (BadImageBlock found expected) = row 19 (leafValues found ++ (expected ∷ []))
+rowOf (BadLeaf mfn found expected) = row 20 (mfn ∷ (leafValues found ++ wantedValues expected))
 rowOf (SpuriousDescriptor table index desc) = row 21 (table ∷ index ∷ desc ∷ [])
 rowOf (BadDeviceBlock index desc) = row 22 (index ∷ desc ∷ [])
-rowOf (UnauthorizedMapping dom mfn owned owner perm) = row 23 (dom ∷ mfn ∷ owned ∷ owner ∷ perm ∷ [])
+rowOf (UnauthorizedMapping dom mfn owner perm) = row 23 (dom ∷ mfn ∷ (ownerValues owner ++ (permCode perm ∷ [])))
 rowOf (WriteEscalation dom mfn owner) = row 24 (dom ∷ mfn ∷ owner ∷ [])
-rowOf (Inexact dom mfn mapped expected) = row 25 (dom ∷ mfn ∷ mapped ∷ expected ∷ [])
+rowOf (Inexact dom mfn mapped expected) = row 25 (dom ∷ mfn ∷ entryCode mapped ∷ entryCode expected ∷ [])
 rowOf StepPastLast = row 26 []
+
+-- the row of a refusal, where its test holds
+abbrev pub refuse : Bool → Refusal → List Row
+refuse t r = given t (rowOf r ∷ [])
 
 abbrev pub outcomeOf : Verdict → Outcome
 outcomeOf Accepted = accepted

@@ -1,10 +1,15 @@
 // The answer of a call that document 01's table can refuse.
+use decode::DecodedLeaf;
+use decode::DecodedTable;
+use p2m::Owner;
+use perm::Entry;
+use perm::Perm;
 ghost use mathlib.Core.Path.{_≡_};
-ghost use Rattle.refusal.specs.Outcome.{outcomeOf, outcomeWords, rowWords, rowOf};
+ghost use Rattle.refusal.specs.Outcome.{leafValues, wantedValues, rowOf, outcomeOf, rowWords, outcomeWords};
+ghost use Rattle.refusal.specs.declared.Refusal.the-variants.{BadTableEntry, BadImageBlock, BadLeaf, UnauthorizedMapping, Inexact};
 
 // Rows 1 to 26, by the Rust's names where it has them, with the values that a refusal carries. Names are document 01's codes: maps,
-// windows and tables, and in `WindowUnaligned` row 6's checks. What may be none is told by a 1 and its values, or by zeros: an owner by
-// `owned`, what a word decodes to by `found`, what it should by `expects`. A permission is an entry of a map, an access 1 Ro or 2 Rw.
+// windows and tables, and in `WindowUnaligned` row 6's checks.
 pub enum Refusal {
     ArenaLength,
     MapLength,
@@ -63,26 +68,17 @@ pub enum Refusal {
     BadTableEntry {
         table: u64,
         index: u64,
-        found: u64,
-        pa: u64,
+        found: DecodedTable,
         expected: u64,
     },
     BadImageBlock {
-        found: u64,
-        pa: u64,
-        access: u64,
-        never: u64,
+        found: DecodedLeaf,
         expected: u64,
     },
     BadLeaf {
         mfn: u64,
-        found: u64,
-        pa: u64,
-        access: u64,
-        never: u64,
-        expects: u64,
-        expected_pa: u64,
-        expected_access: u64,
+        found: DecodedLeaf,
+        expected: DecodedLeaf,
     },
     SpuriousDescriptor {
         table: u64,
@@ -96,9 +92,8 @@ pub enum Refusal {
     UnauthorizedMapping {
         dom: u64,
         mfn: u64,
-        owned: u64,
-        owner: u64,
-        perm: u64,
+        owner: Owner,
+        perm: Perm,
     },
     WriteEscalation {
         dom: u64,
@@ -108,8 +103,8 @@ pub enum Refusal {
     Inexact {
         dom: u64,
         mfn: u64,
-        mapped: u64,
-        expected: u64,
+        mapped: Entry,
+        expected: Entry,
     },
     StepPastLast,
 }
@@ -162,36 +157,14 @@ impl Refusal {
                 table,
                 index,
                 found,
-                pa,
                 expected,
-            } => [18, table, index, found, pa, expected, 0, 0, 0],
-            Refusal::BadImageBlock {
-                found,
-                pa,
-                access,
-                never,
-                expected,
-            } => [19, found, pa, access, never, expected, 0, 0, 0],
+            } => bad_table_entry(table, index, found, expected),
+            Refusal::BadImageBlock { found, expected } => bad_image_block(found, expected),
             Refusal::BadLeaf {
                 mfn,
                 found,
-                pa,
-                access,
-                never,
-                expects,
-                expected_pa,
-                expected_access,
-            } => [
-                20,
-                mfn,
-                found,
-                pa,
-                access,
-                never,
-                expects,
-                expected_pa,
-                expected_access,
-            ],
+                expected,
+            } => bad_leaf(mfn, found, expected),
             Refusal::SpuriousDescriptor { table, index, desc } => [
                 21,
                 table,
@@ -207,18 +180,93 @@ impl Refusal {
             Refusal::UnauthorizedMapping {
                 dom,
                 mfn,
-                owned,
                 owner,
                 perm,
-            } => [23, dom, mfn, owned, owner, perm, 0, 0, 0],
+            } => unauthorized_mapping(dom, mfn, owner, perm),
             Refusal::WriteEscalation { dom, mfn, owner } => [24, dom, mfn, owner, 0, 0, 0, 0, 0],
             Refusal::Inexact {
                 dom,
                 mfn,
                 mapped,
                 expected,
-            } => [25, dom, mfn, mapped, expected, 0, 0, 0, 0],
+            } => inexact(dom, mfn, mapped, expected),
             Refusal::StepPastLast => [26, 0, 0, 0, 0, 0, 0, 0, 0],
         }
+    }
+}
+
+fn bad_table_entry(table: u64, index: u64, found: DecodedTable, expected: u64) -> [u64; 9]
+    ensures { λ r. ⌜ r ≡ rowWords (rowOf (BadTableEntry table index found expected)) ⌝ }
+{
+    match found {
+        DecodedTable::At(pa) => [18, table, index, 1, pa, expected, 0, 0, 0],
+        DecodedTable::Nothing => [18, table, index, 0, 0, expected, 0, 0, 0],
+    }
+}
+
+fn bad_image_block(found: DecodedLeaf, expected: u64) -> [u64; 9]
+    ensures { λ r. ⌜ r ≡ rowWords (rowOf (BadImageBlock found expected)) ⌝ }
+{
+    let f = leaf_values(found);
+    [19, f[0], f[1], f[2], f[3], expected, 0, 0, 0]
+}
+
+fn bad_leaf(mfn: u64, found: DecodedLeaf, expected: DecodedLeaf) -> [u64; 9]
+    ensures { λ r. ⌜ r ≡ rowWords (rowOf (BadLeaf mfn found expected)) ⌝ }
+{
+    let f = leaf_values(found);
+    let e = wanted_values(expected);
+    [20, mfn, f[0], f[1], f[2], f[3], e[0], e[1], e[2]]
+}
+
+fn unauthorized_mapping(dom: u64, mfn: u64, owner: Owner, perm: Perm) -> [u64; 9]
+    ensures { λ r. ⌜ r ≡ rowWords (rowOf (UnauthorizedMapping dom mfn owner perm)) ⌝ }
+{
+    let entry = perm.code() as u64;
+    match owner {
+        Owner::Domain(number) => [23, dom, mfn, 1, number as u64, entry, 0, 0, 0],
+        Owner::Nobody => [23, dom, mfn, 0, 0, entry, 0, 0, 0],
+    }
+}
+
+fn inexact(dom: u64, mfn: u64, mapped: Entry, expected: Entry) -> [u64; 9]
+    ensures { λ r. ⌜ r ≡ rowWords (rowOf (Inexact dom mfn mapped expected)) ⌝ }
+{
+    [
+        25,
+        dom,
+        mfn,
+        mapped.code() as u64,
+        expected.code() as u64,
+        0,
+        0,
+        0,
+        0,
+    ]
+}
+
+// A leaf that is found, as a refusal carries it: 1 and its values, or zeros.
+fn leaf_values(found: DecodedLeaf) -> [u64; 4]
+    ensures { λ r. ⌜ r ≡ leafValues found ⌝ }
+{
+    match found {
+        DecodedLeaf::Leaf(leaf) => {
+            let access = leaf.perm;
+            [1, leaf.pa, access.code() as u64, leaf.xn as u64]
+        }
+        DecodedLeaf::Nothing => [0; 4],
+    }
+}
+
+// One that is wanted.
+fn wanted_values(want: DecodedLeaf) -> [u64; 3]
+    ensures { λ r. ⌜ r ≡ wantedValues want ⌝ }
+{
+    match want {
+        DecodedLeaf::Leaf(leaf) => {
+            let access = leaf.perm;
+            [1, leaf.pa, access.code() as u64]
+        }
+        DecodedLeaf::Nothing => [0; 3],
     }
 }

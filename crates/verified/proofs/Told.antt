@@ -20,12 +20,9 @@ use Rattle.fields.specs.Numbers.{bit}
 use Rattle.perm.specs.Perm.{permCode}
 use Rattle.perm.specs.declared.Perm.the-variants.{Ro, Rw, Rx}
 use Rattle.perm.specs.declared.Perm.{Perm}
+use Rattle.refusal.proofs.None.{only}
 use Rattle.refusal.specs.Table.{Row, given}
 use Rattle.verify_rows.specs.Word.{sameTable, sameLeaf, sameBlock, row18, row19, leafRow, blockRow}
-
-only : (t : Bool) (r : Row) → given t (r ∷ []) ≡ [] → t ≡ false
-only true r e = absurd (let z : _≡_ {A = ℕ} 0 1 = cc in omega arith)
-only false r e = refl
 
 halves : (a b : Bool) → (a && b) ≡ true → (a ≡ true) × (b ≡ true)
 halves true b e = (refl, e)

@@ -1,11 +1,10 @@
 -- Rows 18 to 22 of document 01's table, of one word: what its decoder finds there, against what is wanted.
 use Prim.Native.Nat.{ℕ}
 use mathlib.Core.Bool.{Bool, true, false, not, _&&_}
-use mathlib.Core.List.{List, [], _∷_, _++_}
+use mathlib.Core.List.{List, [], _∷_}
 use lib.Dec.{eqb}
 use Rattle.decode.specs.Decoded.{decodedBlock, decodedTable, decodedDevice}
 use Rattle.decode.specs.Emitted.{leafWith}
-use Rattle.decode.specs.declared.Decoded.{Decoded}
 use Rattle.decode.specs.declared.DecodedBlock.the-variants.{Device, Nothing as NoBlock}
 use Rattle.decode.specs.declared.DecodedBlock.{DecodedBlock}
 use Rattle.decode.specs.declared.DecodedLeaf.the-variants.{Leaf, Nothing as NoLeaf}
@@ -19,7 +18,9 @@ use Rattle.fields.specs.Named.{named}
 use Rattle.fields.specs.Numbers.{bit}
 use Rattle.perm.specs.Perm.{permCode}
 use Rattle.perm.specs.declared.Perm.the-variants.{Ro, Rw, Rx}
-use Rattle.refusal.specs.Table.{Row, row, given, refuseIf}
+use Rattle.refusal.specs.Outcome.{rowOf, refuse}
+use Rattle.refusal.specs.Table.{Row, row, given}
+use Rattle.refusal.specs.declared.Refusal.the-variants.{BadTableEntry, BadImageBlock, BadLeaf}
 
 -- it names the table at pa
 abbrev pub sameTable : DecodedTable → ℕ → Bool
@@ -40,30 +41,17 @@ sameBlock (Device a) NoBlock = false
 sameBlock NoBlock (Device b) = false
 sameBlock NoBlock NoBlock = true
 
--- what is found, as a refusal carries it: 1 and its values, or zeros
-abbrev pub tableValues : DecodedTable → List ℕ
-tableValues (At pa) = 1 ∷ pa ∷ []
-tableValues NoTable = 0 ∷ 0 ∷ []
-
-abbrev pub leafValues : DecodedLeaf → List ℕ
-leafValues (Leaf a) = 1 ∷ a .pa ∷ permCode (a .perm) ∷ bit (a .xn) ∷ []
-leafValues NoLeaf = 0 ∷ 0 ∷ 0 ∷ 0 ∷ []
-
--- what is wanted, as 20 carries it: its address and access
-abbrev pub wantedValues : Decoded → List ℕ
-wantedValues a = 1 ∷ a .pa ∷ permCode (a .perm) ∷ []
-
 -- row 18: word d, at an index of a table, does not name the table at pa
 unfoldable pub row18 : ℕ → ℕ → ℕ → ℕ → List Row
 row18 t j d pa =
     let found = decodedTable d in
-    refuseIf (not (sameTable found (pageAddress pa))) 18 (t ∷ j ∷ (tableValues found ++ (pageAddress pa ∷ [])))
+    refuse (not (sameTable found (pageAddress pa))) (BadTableEntry t j found (pageAddress pa))
 
 -- row 19: word d is not the image's block, read-only and executable at its address
 unfoldable pub row19 : ℕ → ℕ → List Row
 row19 d pa =
     let found = decodedBlock d in
-    refuseIf (not (sameLeaf found (leafWith (blockAddress pa) readExecute))) 19 (leafValues found ++ (blockAddress pa ∷ []))
+    refuse (not (sameLeaf found (leafWith (blockAddress pa) readExecute))) (BadImageBlock found (blockAddress pa))
 
 -- row 21: a word where none is wanted
 abbrev pub spurious : ℕ → ℕ → ℕ → Row
@@ -75,7 +63,7 @@ wantedLeaf entry pa exempt = named permCode (Ro ∷ Rw ∷ Rx ∷ []) (λ p. lea
 
 -- row 20: the leaf of frame m; 21 where nothing is wanted
 abbrev pub badLeaf : ℕ → ℕ → ℕ → ℕ → DecodedLeaf → DecodedLeaf → Row
-badLeaf t j d m found (Leaf want) = row 20 (m ∷ (leafValues found ++ wantedValues want))
+badLeaf t j d m found (Leaf want) = rowOf (BadLeaf m found (Leaf want))
 badLeaf t j d m found NoLeaf = spurious t j d
 
 -- what is found in word d differs from what is wanted for frame m

@@ -7,7 +7,6 @@ use decode::DecodedTable;
 use perm::Perm;
 use refusal::Refusal;
 use refusal::Verdict;
-ghost use mathlib.Core.List.{_∷_, _++_};
 ghost use mathlib.Core.Path.{_≡_};
 ghost use lib.ListN.{getD};
 ghost use Rattle.decode.specs.Emitted.{leafWith};
@@ -15,8 +14,8 @@ ghost use Rattle.decode.specs.declared.DecodedBlock.the-variants.{Device};
 ghost use Rattle.decode.specs.declared.DecodedLeaf.the-variants.{Leaf};
 ghost use Rattle.desc.specs.Words.{leafAccessXn};
 ghost use Rattle.refusal.specs.Outcome.{outcomeOf};
-ghost use Rattle.refusal.specs.Table.{row, refused, first};
-ghost use Rattle.verify_rows.specs.Word.{sameLeaf, sameBlock, leafValues, wantedValues, row18, row19, wantedLeaf, leafRow, blockRow};
+ghost use Rattle.refusal.specs.Table.{first};
+ghost use Rattle.verify_rows.specs.Word.{sameTable, sameLeaf, sameBlock, row18, row19, wantedLeaf, leafRow, blockRow};
 
 // A word of the arena, 0 past its end.
 pub fn word_at(arena: &[u64], i: usize) -> u64
@@ -33,25 +32,26 @@ pub fn table_entry(table: u64, index: u64, d: u64, pa: u64) -> Verdict
     ensures { λ r. ⌜ outcomeOf r ≡ first (row18 table index d pa) ⌝ }
 {
     let expected = arena::page_address(pa, 0);
-    let DecodedTable::At(found) = decode::decode_table(d) else {
-        return Verdict::Refused(Refusal::BadTableEntry {
-            table,
-            index,
-            found: 0,
-            pa: 0,
-            expected,
-        });
-    };
-    if found != expected {
-        return Verdict::Refused(Refusal::BadTableEntry {
-            table,
-            index,
-            found: 1,
-            pa: found,
-            expected,
-        });
+    let found = decode::decode_table(d);
+    if names(found, expected) {
+        return Verdict::Accepted;
     }
-    Verdict::Accepted
+    Verdict::Refused(Refusal::BadTableEntry {
+        table,
+        index,
+        found,
+        expected,
+    })
+}
+
+// Whether it is the table at the address.
+fn names(found: DecodedTable, pa: u64) -> bool
+    ensures { λ r. ⌜ r ≡ sameTable found pa ⌝ }
+{
+    match found {
+        DecodedTable::At(named) => named == pa,
+        DecodedTable::Nothing => false,
+    }
 }
 
 // Row 19. The image is the guest's code: it reads and executes, and nothing writes it.
@@ -68,25 +68,7 @@ pub fn image_block(d: u64, pa: u64) -> Verdict
     if same_leaf(found, want) {
         return Verdict::Accepted;
     }
-    match found {
-        DecodedLeaf::Leaf(leaf) => {
-            let perm = leaf.perm;
-            Verdict::Refused(Refusal::BadImageBlock {
-                found: 1,
-                pa: leaf.pa,
-                access: perm.code() as u64,
-                never: leaf.xn as u64,
-                expected,
-            })
-        }
-        DecodedLeaf::Nothing => Verdict::Refused(Refusal::BadImageBlock {
-            found: 0,
-            pa: 0,
-            access: 0,
-            never: 0,
-            expected,
-        }),
-    }
+    Verdict::Refused(Refusal::BadImageBlock { found, expected })
 }
 
 // Row 20 of the frame, or 21 where nothing is wanted.
@@ -104,44 +86,15 @@ pub fn leaf(
         return Verdict::Accepted;
     }
     match want {
-        DecodedLeaf::Leaf(leaf) => bad_leaf(mfn, found, leaf),
+        DecodedLeaf::Leaf(_) => Verdict::Refused(Refusal::BadLeaf {
+            mfn,
+            found,
+            expected: want,
+        }),
         DecodedLeaf::Nothing => Verdict::Refused(Refusal::SpuriousDescriptor {
             table,
             index,
             desc: d,
-        }),
-    }
-}
-
-// Row 20.
-fn bad_leaf(mfn: u64, found: DecodedLeaf, want: Decoded) -> Verdict
-    ensures { λ r. ⌜ outcomeOf r ≡ refused (row 20 (mfn ∷ (leafValues found ++ wantedValues want))) ⌝ }
-{
-    let wanted = want.perm;
-    let expected_access = wanted.code() as u64;
-    match found {
-        DecodedLeaf::Leaf(leaf) => {
-            let perm = leaf.perm;
-            Verdict::Refused(Refusal::BadLeaf {
-                mfn,
-                found: 1,
-                pa: leaf.pa,
-                access: perm.code() as u64,
-                never: leaf.xn as u64,
-                expects: 1,
-                expected_pa: want.pa,
-                expected_access,
-            })
-        }
-        DecodedLeaf::Nothing => Verdict::Refused(Refusal::BadLeaf {
-            mfn,
-            found: 0,
-            pa: 0,
-            access: 0,
-            never: 0,
-            expects: 1,
-            expected_pa: want.pa,
-            expected_access,
         }),
     }
 }

@@ -1,78 +1,95 @@
 -- `reached` meets its contract: unmapped, the domain's own, nobody's, granted, granted for reading alone, or denied.
-use Prim.Native.Nat.{ℕ}
-use mathlib.Core.Bool.{Bool, true, false}
+use mathlib.Core.Bool.{Bool, false}
 use mathlib.Core.List.{map}
-use mathlib.Core.Path.{_≡_, _∙_, refl, sym, ap}
+use mathlib.Core.Path.{_≡_, _∙_, sym, ap}
 use lib.Dec.{eqb}
 use borrow.Author.Needs.{needs}
-use borrow.Author.Tests.{ne-eqb}
 use denote.Ref.{now}
 use Rattle.edge.specs.Grant.{grantOf}
-use Rattle.fields.specs.Numbers.{nonzero}
 use Rattle.p2m.specs.Frame.{ownerOf}
 use Rattle.p2m.specs.declared.Owner.the-variants.{Domain}
-use Rattle.refusal.specs.Table.{first}
-use Rattle.authority.specs.Authority.{granted, writes, ownerRows, reachRows}
+use Rattle.p2m.specs.declared.Owner.{Owner}
+use Rattle.perm.specs.Perm.{permWrites, entryNamed}
+use Rattle.perm.specs.declared.Entry.the-variants.{Mapped}
+use Rattle.refusal.proofs.None.{accept}
+use Rattle.refusal.specs.Outcome.{rowOf}
+use Rattle.refusal.specs.Table.{first, refused}
+use Rattle.refusal.specs.declared.Refusal.the-variants.{UnauthorizedMapping}
+use Rattle.authority.specs.Authority.{granted, ownerRows, reachRows}
 use Rattle.authority.proofs.Owned.{unmapped, nobody, lent, denied, escalated, of-owner, own-frame, foreign-frame}
 use Rattle.authority.proofs.reached.Statement.{statement}
 use Rattle.authority.proofs.reached.Tie as tie
 
 -- past the first test the entry is mapped
-mapped : (c : tie.Else1) → nonzero (c .before .args .entry) ≡ true
-mapped c = rw (ne-eqb _ _ (c .if1 .left))
+mapped : (c : tie.After-perm) → entryNamed (c .before .before .before .args .entry) ≡ Mapped (c .perm .given .0 .0)
+mapped c = sym (c .before .before .of .ensures) ∙ c .perm .given .1
 
 -- past the third the frame has an owner, who is another
 
-abbrev at-start : tie.After-owner → tie.Start
-at-start c = c .before .before .before .before .before .before
+abbrev at-perm : tie.After-found → tie.After-perm
+at-perm c = c .before .before .before .before .before .before
+
+abbrev at-start : tie.After-found → tie.Start
+at-start c = at-perm c .before .before .before
+
+owner-found :
+    (c : tie.After-found) →
+    let a = at-start c .args in ownerOf (now (a .frames)) (a .mfn) ≡ Domain (c .found .given .0 .0)
+owner-found c = sym (c .before .before .owner-of .ensures) ∙ c .found .given .1
 
 owned :
-    (c : tie.After-owner) →
+    (c : tie.After-found) →
     let a = at-start c .args in
     first (reachRows (now (a .frames)) (map grantOf (now (a .grants))) (a .dom) (a .mfn) (a .entry))
-    ≡ first (ownerRows (map grantOf (now (a .grants))) (a .dom) (a .mfn) (a .entry) (Domain (c .owner .given .0 .0)))
-owned c = of-owner _ _ _ _ _ _ (sym (c .before .before .owner-of .ensures) ∙ c .owner .given .1)
+    ≡ first (ownerRows (map grantOf (now (a .grants))) (a .dom) (a .mfn) (Mapped (at-perm c .perm .given .0 .0)) (Domain (c .found .given .0 .0)))
+owned c = ap first (of-owner _ _ _ _ _ _ (mapped (at-perm c)) _ (owner-found c))
 
-foreign : (c : tie.After-owner) → eqb (c .owner .given .0 .0) (at-start c .args .dom) ≡ false
+foreign : (c : tie.After-found) → eqb (c .found .given .0 .0) (at-start c .args .dom) ≡ false
 foreign c =
-    let v = c .before .before in
-    let else2 = v .before in
-    foreign-frame _ _ _ _
-    (sym (else2 .before .owns .ensures) ∙ else2 .if2 .left)
-    (sym (v .owner-of .ensures) ∙ c .owner .given .1)
+    let else1 = c .before .before .before in
+    foreign-frame _ _ _ _ (sym (else1 .before .owns .ensures) ∙ else1 .if1 .left) (owner-found c)
 
 -- what is granted there
-abbrev grant : tie.After-owner → Bool → Bool
+abbrev grant : tie.After-found → Bool → Bool
 grant c w =
     let a = at-start c .args in
-    granted (map grantOf (now (a .grants))) (c .owner .given .0 .0) (a .dom) (a .mfn) w
+    granted (map grantOf (now (a .grants))) (c .found .given .0 .0) (a .dom) (a .mfn) w
 
 asked :
     (v : tie.After-granted) →
-    let o = v .before .before .before in grant o (writes (at-start o .args .entry)) ≡ v .granted .result
-asked v =
-    let o = v .before .before .before in
-    sym (v .granted .ensures ∙ ap (λ (k : ℕ). grant o (eqb (at-start o .args .entry) k)) (v .before .code .ensures))
+    let o = v .before .before .before in grant o (permWrites (at-perm o .perm .given .0 .0)) ≡ v .granted .result
+asked v = sym (v .granted .ensures ∙ ap (grant (v .before .before .before)) (v .before .writable .ensures))
+
+of-requires : tie.Need-of-requires
+of-requires c κs = search needs
+
+enum-known-perm : tie.Need-enum-known-perm
+enum-known-perm c = search needs
+
+enum-told : tie.Need-enum-told
+enum-told c = search needs
 
 returns : tie.Need-returns
 returns c =
-    let a = c .before .args in
-    sym (of-owner _ _ _ _ _ (ownerOf (now (a .frames)) (a .mfn)) refl ∙ unmapped _ _ _ _ _ (c .if1 .taken))
+    let v = c .before .before in
+    sym (accept _ (unmapped _ _ _ _ _ (sym (v .of .ensures) ∙ c .enum-told .given .1)))
 
 owns-requires : tie.Need-owns-requires
 owns-requires c κs = search needs
 
 returns-2 : tie.Need-returns-2
-returns-2 c = sym (own-frame _ _ _ _ _ (sym (c .before .owns .ensures) ∙ c .if2 .taken))
+returns-2 c =
+    let v = c .before in
+    sym (own-frame _ _ _ _ _ _ (mapped (v .before .before)) (sym (v .owns .ensures) ∙ c .if1 .taken))
 
 owner-of-requires : tie.Need-owner-of-requires
 owner-of-requires c κs = search needs
 
-enum-known-owner : tie.Need-enum-known-owner
-enum-known-owner c = search needs
+enum-known-found : tie.Need-enum-known-found
+enum-known-found c = search needs
 
-enum-told : tie.Need-enum-told
-enum-told c = search needs
+enum-told-2 : tie.Need-enum-told-2
+enum-told-2 c = search needs
 
 unauthorized-requires : tie.Need-unauthorized-requires
 unauthorized-requires c κs = search needs
@@ -81,12 +98,15 @@ returns-3 : tie.Need-returns-3
 returns-3 c =
     let told = c .before in
     let v = told .before .before in
-    let nobody-owns = sym (v .owner-of .ensures) ∙ told .enum-told .given .1 in
+    let nobody-owns = sym (v .owner-of .ensures) ∙ told .enum-told2 .given .1 in
+    let p = v .before .before .before .before in
+    let a = p .before .before .before .args in
     c .unauthorized .ensures
-    ∙ sym (of-owner _ _ _ _ _ _ nobody-owns ∙ nobody _ _ _ _ (mapped (v .before .before .before)))
+    ∙ ap (λ (o : Owner). refused (rowOf (UnauthorizedMapping (a .dom) (a .mfn) o (p .perm .given .0 .0)))) (told .enum-told2 .given .1)
+    ∙ sym (ap first (of-owner _ _ _ _ _ _ (mapped p) _ nobody-owns) ∙ nobody _ _ _ _)
 
-code-requires : tie.Need-code-requires
-code-requires c κs = search needs
+writable-requires : tie.Need-writable-requires
+writable-requires c κs = search needs
 
 granted-requires : tie.Need-granted-requires
 granted-requires c κs = search needs
@@ -94,8 +114,7 @@ granted-requires c κs = search needs
 returns-4 : tie.Need-returns-4
 returns-4 c =
     let v = c .before in
-    let o = v .before .before .before in
-    sym (owned o ∙ lent _ _ _ _ _ (foreign o) (asked v ∙ c .if3 .taken))
+    let o = v .before .before .before in sym (owned o ∙ lent _ _ _ _ _ (foreign o) (asked v ∙ c .if2 .taken))
 
 granted-requires-2 : tie.Need-granted-requires-2
 granted-requires-2 c κs = search needs
@@ -112,9 +131,8 @@ returns-5 c =
     (owned o
     ∙ escalated _ _ _ _ _
     (foreign o)
-    (mapped (o .before .before .before .before .before))
-    (asked w ∙ v .before .if3 .left)
-    (sym (v .granted2 .ensures) ∙ c .if4 .taken))
+    (asked w ∙ v .before .if2 .left)
+    (sym (v .granted2 .ensures) ∙ c .if3 .taken))
 
 unauthorized-requires-2 : tie.Need-unauthorized-requires-2
 unauthorized-requires-2 c κs = search needs
@@ -125,26 +143,24 @@ returns-6 c =
     let v = d .before in
     let o = v .before .before .before .before .before in
     c .unauthorized2 .ensures
-    ∙ sym
-    (owned o
-    ∙ denied _ _ _ _ _
-    (foreign o)
-    (mapped (o .before .before .before .before .before))
-    (sym (v .granted2 .ensures) ∙ d .if4 .left))
+    ∙ sym (owned o ∙ denied _ _ _ _ _ (foreign o) (sym (v .granted2 .ensures) ∙ d .if3 .left))
 
 pub reached-spec : {M : Type 1} → statement M
 reached-spec =
     tie.close
     (tie.spec
+    of-requires
+    enum-known-perm
+    enum-told
     returns
     owns-requires
     returns-2
     owner-of-requires
-    enum-known-owner
-    enum-told
+    enum-known-found
+    enum-told-2
     unauthorized-requires
     returns-3
-    code-requires
+    writable-requires
     granted-requires
     returns-4
     granted-requires-2

@@ -58,17 +58,15 @@ shared-slice-read-mapped c = search needs
 shared-slice-read-expected : tie.Need-shared-slice-read-expected Inv-loop μ-loop
 shared-slice-read-expected c = search needs
 
-cast-t15 : tie.Need-cast-t15 Inv-loop μ-loop
-cast-t15 c = let v = c .before .before in omega (arith, v .shared-slice-known3 .given (v .before .before .loop .m))
-
-cast-t16 : tie.Need-cast-t16 Inv-loop μ-loop
-cast-t16 c = let v = c .before in omega (arith, v .shared-slice-known4 .given (v .before .before .before .loop .m))
+inexact-requires : tie.Need-inexact-requires Inv-loop μ-loop
+inexact-requires c κs = search needs
 
 returns-2 : tie.Need-returns-2 Inv-loop μ-loop
 unfolding row25 first
 returns-2 c =
-    let v = c .before in
-    rw (v .before .before .before .loop .inv, here v, ne-eqb _ _ (c .if2 .taken))
+    let e = c .before in
+    let v = e .before in
+    rw (v .before .before .before .loop .inv, here v, ne-eqb _ _ (e .if2 .taken)) (c .inexact .ensures)
 
 add-m : tie.Need-add-m Inv-loop μ-loop
 add-m c = search needs
@@ -100,8 +98,7 @@ same-entries-spec =
     loop-holds
     shared-slice-read-mapped
     shared-slice-read-expected
-    cast-t15
-    cast-t16
+    inexact-requires
     returns-2
     add-m
     loop-less

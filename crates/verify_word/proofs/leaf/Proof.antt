@@ -12,35 +12,22 @@ returns : tie.Need-returns
 unfolding leafRow first
 returns c = rw (← c .before .same-leaf .ensures, c .if1 .taken)
 
-enum-known-want : tie.Need-enum-known-want
-enum-known-want c = search needs
-
-bad-leaf-requires : tie.Need-bad-leaf-requires
-bad-leaf-requires c κs = search needs
-
 enum-told : tie.Need-enum-told
 enum-told c = search needs
+
+enum-told-2 : tie.Need-enum-told-2
+enum-told-2 c = search needs
 
 returns-2 : tie.Need-returns-2
 unfolding leafRow first
 returns-2 c =
-    let w = c .before .before in
-    let e = w .before .before in
-    rw (← e .before .same-leaf .ensures, e .if1 .left, w .want .given .1) (c .bad-leaf .ensures)
+    let e = c .before .before in rw (← e .before .same-leaf .ensures, e .if1 .left, c .enum-told .given .1)
 
 returns-3 : tie.Need-returns-3
 unfolding leafRow first
 returns-3 c =
-    let e = c .before .before in rw (← e .before .same-leaf .ensures, e .if1 .left, c .enum-told .given .1)
+    let e = c .before .before in rw (← e .before .same-leaf .ensures, e .if1 .left, c .enum-told2 .given .1)
 
 pub leaf-spec : {M : Type 1} → statement M
 leaf-spec =
-    tie.close
-    (tie.spec
-    same-leaf-requires
-    returns
-    enum-known-want
-    bad-leaf-requires
-    enum-told
-    returns-2
-    returns-3)
+    tie.close (tie.spec same-leaf-requires returns enum-told enum-told-2 returns-2 returns-3)

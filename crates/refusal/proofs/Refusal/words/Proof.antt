@@ -1,7 +1,7 @@
--- `Refusal::words` meets its contract: each arm is given the case.
+-- `Refusal::words` meets its contract: each arm is given the case; those that hold an enum call for its words.
 use Prim.Native.Nat.{ℕ}
 use mathlib.Core.List.{List}
-use mathlib.Core.Path.{sym, ap}
+use mathlib.Core.Path.{_∙_, sym, ap}
 use borrow.Author.Needs.{needs}
 use Rattle.refusal.specs.Outcome.{rowOf, rowWords}
 use Rattle.refusal.specs.declared.Refusal.{Refusal}
@@ -65,11 +65,20 @@ enum-known-self-14 c = search needs
 enum-known-self-15 : tie.Need-enum-known-self-15
 enum-known-self-15 c = search needs
 
+bad-table-entry-requires : tie.Need-bad-table-entry-requires
+bad-table-entry-requires c κs = search needs
+
 enum-known-self-16 : tie.Need-enum-known-self-16
 enum-known-self-16 c = search needs
 
+bad-image-block-requires : tie.Need-bad-image-block-requires
+bad-image-block-requires c κs = search needs
+
 enum-known-self-17 : tie.Need-enum-known-self-17
 enum-known-self-17 c = search needs
+
+bad-leaf-requires : tie.Need-bad-leaf-requires
+bad-leaf-requires c κs = search needs
 
 enum-known-self-18 : tie.Need-enum-known-self-18
 enum-known-self-18 c = search needs
@@ -80,11 +89,17 @@ enum-known-self-19 c = search needs
 enum-known-self-20 : tie.Need-enum-known-self-20
 enum-known-self-20 c = search needs
 
+unauthorized-mapping-requires : tie.Need-unauthorized-mapping-requires
+unauthorized-mapping-requires c κs = search needs
+
 enum-known-self-21 : tie.Need-enum-known-self-21
 enum-known-self-21 c = search needs
 
 enum-known-self-22 : tie.Need-enum-known-self-22
 enum-known-self-22 c = search needs
+
+inexact-requires : tie.Need-inexact-requires
+inexact-requires c κs = search needs
 
 enum-told-4 : tie.Need-enum-told-4
 enum-told-4 c = search needs
@@ -141,13 +156,13 @@ returns-17 : tie.Need-returns-17
 returns-17 c = sym (ap wordsOf (c .before .self14 .given .1))
 
 returns-18 : tie.Need-returns-18
-returns-18 c = sym (ap wordsOf (c .before .self15 .given .1))
+returns-18 c = c .bad-table-entry .ensures ∙ sym (ap wordsOf (c .before .before .self15 .given .1))
 
 returns-19 : tie.Need-returns-19
-returns-19 c = sym (ap wordsOf (c .before .self16 .given .1))
+returns-19 c = c .bad-image-block .ensures ∙ sym (ap wordsOf (c .before .before .self16 .given .1))
 
 returns-20 : tie.Need-returns-20
-returns-20 c = sym (ap wordsOf (c .before .self17 .given .1))
+returns-20 c = c .bad-leaf .ensures ∙ sym (ap wordsOf (c .before .before .self17 .given .1))
 
 returns-21 : tie.Need-returns-21
 returns-21 c = sym (ap wordsOf (c .before .self18 .given .1))
@@ -156,13 +171,13 @@ returns-22 : tie.Need-returns-22
 returns-22 c = sym (ap wordsOf (c .before .self19 .given .1))
 
 returns-23 : tie.Need-returns-23
-returns-23 c = sym (ap wordsOf (c .before .self20 .given .1))
+returns-23 c = c .unauthorized-mapping .ensures ∙ sym (ap wordsOf (c .before .before .self20 .given .1))
 
 returns-24 : tie.Need-returns-24
 returns-24 c = sym (ap wordsOf (c .before .self21 .given .1))
 
 returns-25 : tie.Need-returns-25
-returns-25 c = sym (ap wordsOf (c .before .self22 .given .1))
+returns-25 c = c .inexact .ensures ∙ sym (ap wordsOf (c .before .before .self22 .given .1))
 
 returns-26 : tie.Need-returns-26
 returns-26 c = sym (ap wordsOf (c .enum-told4 .given .1))
@@ -189,13 +204,18 @@ words-spec =
     enum-known-self-13
     enum-known-self-14
     enum-known-self-15
+    bad-table-entry-requires
     enum-known-self-16
+    bad-image-block-requires
     enum-known-self-17
+    bad-leaf-requires
     enum-known-self-18
     enum-known-self-19
     enum-known-self-20
+    unauthorized-mapping-requires
     enum-known-self-21
     enum-known-self-22
+    inexact-requires
     enum-told-4
     returns
     returns-2
