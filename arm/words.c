@@ -42,7 +42,7 @@ static void note_filling(struct scene *s)
     static uint32_t rows[MOST_EDGES][6];
     const uint32_t grants[2][4] = {{7, DOMAIN, (uint32_t)below(8), 1}, {7, DOMAIN, (uint32_t)below(8), 0}};
     uint64_t values[8];
-    uint32_t is_super = (uint32_t)below(2);
+    uint32_t span = (uint32_t)below(4);
     for (size_t i = 0; i < s->edge_count; i++) {
         struct s2_edge e = s->edges[i];
         uint32_t row[6] = {e.parent, e.slot, e.child, e.writable, e.leaf, e.execute};
@@ -53,8 +53,8 @@ static void note_filling(struct scene *s)
     note_maps(s);
     note_answer(s2_fill((const uint32_t(*)[6])rows, s->edge_count, frames, FRAMES, DOMAIN, MAPS(s), values), values);
     note_maps(s);
-    note_answer(s2_exact_edges(DOMAIN, s->base, s->base_len, is_super, s->edges, s->edge_count, frames, FRAMES, values), values);
-    note_answer(s2_exact(DOMAIN, s->sup, s->sup_len, is_super, (const uint32_t(*)[6])rows, s->edge_count, frames, FRAMES, values), values);
+    note_answer(s2_exact_edges(DOMAIN, s->base, s->base_len, span, s->edges, s->edge_count, frames, FRAMES, values), values);
+    note_answer(s2_exact(DOMAIN, s->sup, s->sup_len, span, (const uint32_t(*)[6])rows, s->edge_count, frames, FRAMES, values), values);
     note_answer(s2_authorized(DOMAIN, s->base, s->base_len, frames, FRAMES, grants, 2, values), values);
 }
 

@@ -62,8 +62,8 @@ static void print_map(const char *name, const uint8_t *map, size_t len)
 /* A filling follows the edges; whether the domain may have these frames is asked apart. */
 static void check_maps(void)
 {
-    accepted("exact", s2_exact_edges(DOMAIN, base, S2_MAP_LEN, 0, edges, 2, frames, 5, values));
-    accepted("exact", s2_exact_edges(DOMAIN, sup, SUPERS, 1, edges, 2, frames, 5, values));
+    accepted("exact", s2_exact_edges(DOMAIN, base, S2_MAP_LEN, S2_BASE, edges, 2, frames, 5, values));
+    accepted("exact", s2_exact_edges(DOMAIN, sup, SUPERS, S2_SUPER, edges, 2, frames, 5, values));
     static const uint32_t none[1][4];
     accepted("authorized", s2_authorized(DOMAIN, base, S2_MAP_LEN, frames, 5, none, 0, values));
     accepted("authorized", s2_authorized(DOMAIN, sup, SUPERS, frames, 5, none, 0, values));

@@ -36,7 +36,7 @@
  * 25      domain, frame, mapped, expected
  * 26      nothing
  *
- * Codes: maps 1 base, 2 super (the one map of s2_authorized is 1); windows 1 image, 2 data, 3 super, 4 device; tables 1 l1,
+ * Codes: maps and spans 1 base, 2 super (the one map of s2_authorized is 1); windows 1 image, 2 data, 3 super, 4 device; tables 1 l1,
  * 2 l2_code, 3 l2_data, 4 l3_data, 5 l2_sup, 6 l2_dev; checks 1 data ipa, 2 data pa, 3 super ipa, 4 super pa, 5 image, 6 device.
  * A permission, and an entry of a map, is 0 none, 1 Ro, 2 Rw, 3 Rx. A leaf is pa, access and never: an access is 1 Ro or 2 Rw, and
  * never is 1 where it is never executed, else 0; an Rx entry is a leaf with access 1 and never 0.
@@ -60,6 +60,10 @@ extern "C" {
 
 /* The most entries of a map. */
 #define S2_MAP_LEN 512
+
+/* Spans. */
+#define S2_BASE 1
+#define S2_SUPER 2
 
 /* Where tables 1 to 6 stand. */
 #define S2_TABLES \
@@ -169,11 +173,11 @@ uint32_t s2_authorized(
     const uint32_t (*grants)[4], size_t grant_count,
     uint64_t values[8]);
 
-/* Whether the map is what the domain's edges give: rows 2, 3 and 25. Of `is_super`, zero is the base span and all else the super span. */
+/* Whether the map is what the domain's edges give: rows 2, 3 and 25. Of `span`, S2_SUPER is the super span and all else base. */
 uint32_t s2_exact(
     uint16_t dom,
     const uint8_t *map, size_t map_len,
-    uint32_t is_super,
+    uint32_t span,
     const uint32_t (*edges)[6], size_t edge_count,
     const uint32_t (*frames)[2], size_t frame_count,
     uint64_t values[8]);
@@ -182,7 +186,7 @@ uint32_t s2_exact(
 uint32_t s2_exact_edges(
     uint16_t dom,
     const uint8_t *map, size_t map_len,
-    uint32_t is_super,
+    uint32_t span,
     const struct s2_edge *edges, size_t edge_count,
     const uint32_t (*frames)[2], size_t frame_count,
     uint64_t values[8]);

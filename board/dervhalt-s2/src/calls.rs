@@ -98,7 +98,7 @@ macro_rules! declare_exact {
                 dom: u16,
                 map: *const u8,
                 map_len: usize,
-                is_super: u32,
+                span: u32,
                 edges: *const $edge,
                 edge_count: usize,
                 frames: *const Frame,
@@ -255,7 +255,7 @@ pub fn fill(
 }
 
 pub fn exact(dom: DomId, map: &[u8], span: Span, edges: Edges<'_>, frames: &[Frame]) -> Answer {
-    let is_super = u32::from(span == Span::Super);
+    let span = span as u32;
     let (entries, len) = (map.as_ptr(), map.len());
     let (owners, count) = (frames.as_ptr(), frames.len());
     // SAFETY: the map and each list are as long as is said, and eight values are written.
@@ -264,7 +264,7 @@ pub fn exact(dom: DomId, map: &[u8], span: Span, edges: Edges<'_>, frames: &[Fra
             edges,
             s2_exact,
             s2_exact_edges,
-            [dom, entries, len, is_super],
+            [dom, entries, len, span],
             owners,
             count,
             values

@@ -2,7 +2,7 @@
 use Prim.Native.Nat.{ℕ}
 use mathlib.Core.List.{List, [], _∷_}
 use mathlib.Core.Path.{_≡_}
-use lib.Dec.{leb}
+use lib.Dec.{eqb, leb}
 use lib.ListN.{getD}
 use Rattle.fields.specs.Named.{pick, named}
 use Rattle.p2m.specs.declared.ChildType.{ChildType}
@@ -51,6 +51,10 @@ childType L4 = Child (PageTable L3)
 abbrev pub spanCode : Span → ℕ
 spanCode Base = 1
 spanCode Super = 2
+
+-- the span that a number says: super's code, all else base
+abbrev pub spanNamed : ℕ → Span
+spanNamed n = pick (eqb n (spanCode Super)) Super Base
 
 -- parent kind 2 is base, 3 is super
 abbrev pub spanKind : Span → ℕ

@@ -1,6 +1,6 @@
 // Frame kinds and owners (hv-core's p2m.rs), and the span of a table's leaves (hv-s2's leafmap.rs).
 ghost use mathlib.Core.Path.{_≡_};
-ghost use Rattle.p2m.specs.Frame.{kindOf, levelOfKind, typeCode, levelOfType, childType, spanCode, spanOfKind, ownerOf, kindAt};
+ghost use Rattle.p2m.specs.Frame.{kindOf, levelOfKind, typeCode, levelOfType, childType, spanCode, spanNamed, spanOfKind, ownerOf, kindAt};
 
 // The level of a page table. L1 is the bottom: its entries map ordinary pages.
 pub enum PtLevel {
@@ -93,6 +93,16 @@ impl PageType {
 }
 
 impl Span {
+    // By its code: what is not super's is base.
+    pub fn of(code: u32) -> Span
+        ensures { λ r. ⌜ r ≡ spanNamed code ⌝ }
+    {
+        if code == Span::Super.code() {
+            return Span::Super;
+        }
+        Span::Base
+    }
+
     pub fn code(self) -> u32
         ensures { λ r. ⌜ r ≡ spanCode self ⌝ }
     {

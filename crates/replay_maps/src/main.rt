@@ -55,15 +55,9 @@ fn exact(x: &[u64; 16]) -> bool {
     let edges = edges(x);
     let frames = frames(x);
     let dom = (x[1] % 65536) as u16;
-    let verdict = exact::check_exact(dom, &leaves, span(x[2]), &edges, &frames);
+    let span = Span::of((x[2] % 0x1_0000_0000) as u32);
+    let verdict = exact::check_exact(dom, &leaves, span, &edges, &frames);
     print_answer(verdict)
-}
-
-fn span(n: u64) -> Span {
-    if n == 0 {
-        return Span::Base;
-    }
-    Span::Super
 }
 
 fn edges(x: &[u64; 16]) -> [[u32; 6]; 4] {

@@ -2,7 +2,6 @@
 use Prim.Native.Nat.{ℕ}
 use mathlib.Core.List.{List, [], _∷_, map}
 use mathlib.Core.Path.{_≡_}
-use lib.Dec.{eqb}
 use Rattle.arena.specs.Over.{Over}
 use Rattle.authority.specs.Authority.{authorityRows}
 use Rattle.edge.specs.declared.Edge.{Edge}
@@ -10,12 +9,10 @@ use Rattle.edge.specs.Grant.{grantOf}
 use Rattle.encode.specs.Encoding.{left}
 use Rattle.exact.specs.Exact.{exactRows}
 use Rattle.exposed.specs.Exposed.{exposure, exposureValues}
-use Rattle.fields.specs.Named.{pick}
 use Rattle.filling.specs.Filling.{Filling, filled}
 use Rattle.layout.specs.Layout.{layoutOf}
 use Rattle.layout.specs.Size.{outputLimit}
-use Rattle.p2m.specs.declared.Span.{Span}
-use Rattle.p2m.specs.declared.Span.the-variants.{Base, Super}
+use Rattle.p2m.specs.Frame.{spanNamed}
 use Rattle.reach.specs.Reach.{reachValues}
 use Rattle.refusal.specs.Outcome.{outcomeWords}
 use Rattle.refusal.specs.Table.{Outcome, first}
@@ -65,10 +62,6 @@ exposedAnswer numbers =
 abbrev pub authorizedAnswer : ℕ → List ℕ → List (List ℕ) → List (List ℕ) → List ℕ
 authorizedAnswer dom leaves frames grants = outcomeWords (first (authorityRows frames (map grantOf grants) dom leaves))
 
--- zero is base, all else super
-abbrev pub spanNumbered : ℕ → Span
-spanNumbered n = pick (eqb n 0) Base Super
-
 abbrev pub exactAnswer : ℕ → List ℕ → ℕ → List Edge → List (List ℕ) → List ℕ
-exactAnswer dom leaves isSuper edges frames =
-    outcomeWords (first (exactRows frames dom (spanNumbered isSuper) edges leaves))
+exactAnswer dom leaves span edges frames =
+    outcomeWords (first (exactRows frames dom (spanNamed span) edges leaves))

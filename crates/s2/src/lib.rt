@@ -10,7 +10,7 @@ ghost use mathlib.Core.Path.{_≡_};
 ghost use lib.ListN.{getD};
 ghost use Rattle.edge.specs.Edge.{edgesOf};
 ghost use Rattle.refusal.specs.Outcome.{outcomeOf, outcomeWords};
-ghost use Rattle.s2.specs.Answers.{validateAnswer, fillAnswer, EncodeAnswer, StepAnswer, walkAnswer, verifyAnswer, exposedAnswer, authorizedAnswer, spanNumbered, exactAnswer};
+ghost use Rattle.s2.specs.Answers.{validateAnswer, fillAnswer, EncodeAnswer, StepAnswer, walkAnswer, verifyAnswer, exposedAnswer, authorizedAnswer, exactAnswer};
 
 // Rows 4 to 12.
 #[no_mangle]
@@ -345,14 +345,14 @@ pub extern "C" fn s2_authorized(
 pub extern "C" fn s2_exact(
     dom: u16,
     map: &[u8],
-    is_super: u32,
+    span: u32,
     edges: &[[u32; 6]],
     frames: &[[u32; 2]],
     values: &mut [u64; 8],
 ) -> u32
-    ensures { λ r. ⌜ (r ∷ now (values .exit)) ≡ exactAnswer dom (now (map .entry)) «is_super» (edgesOf (now (edges .entry))) (now (frames .entry)) ⌝ }
+    ensures { λ r. ⌜ (r ∷ now (values .exit)) ≡ exactAnswer dom (now (map .entry)) span (edgesOf (now (edges .entry))) (now (frames .entry)) ⌝ }
 {
-    let span = span_numbered(is_super);
+    let span = Span::of(span);
     answer(exact::check_exact(dom, map, span, edges, frames), values)
 }
 
@@ -361,27 +361,18 @@ pub extern "C" fn s2_exact(
 pub extern "C" fn s2_exact_edges(
     dom: u16,
     map: &[u8],
-    is_super: u32,
+    span: u32,
     edges: &[Edge],
     frames: &[[u32; 2]],
     values: &mut [u64; 8],
 ) -> u32
-    ensures { λ r. ⌜ (r ∷ now (values .exit)) ≡ exactAnswer dom (now (map .entry)) «is_super» (now (edges .entry)) (now (frames .entry)) ⌝ }
+    ensures { λ r. ⌜ (r ∷ now (values .exit)) ≡ exactAnswer dom (now (map .entry)) span (now (edges .entry)) (now (frames .entry)) ⌝ }
 {
-    let span = span_numbered(is_super);
+    let span = Span::of(span);
     answer(
         exact_edges::check_exact(dom, map, span, edges, frames),
         values,
     )
-}
-
-fn span_numbered(is_super: u32) -> Span
-    ensures { λ r. ⌜ r ≡ spanNumbered «is_super» ⌝ }
-{
-    if is_super == 0 {
-        return Span::Base;
-    }
-    Span::Super
 }
 
 // The number, and the values.

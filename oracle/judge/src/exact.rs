@@ -25,8 +25,8 @@ use crate::{edge_record_faults, exact_faults, misread};
 pub struct Linked {
     pub dom: DomId,
     pub map: Vec<u8>,
-    /// Zero is base, all else super.
-    pub is_super: u32,
+    /// The code of a span: 2 is super, all else base.
+    pub span: u32,
     pub edges: Vec<Edge>,
     pub frames: Vec<Frame>,
 }
@@ -98,16 +98,13 @@ impl Input for Linked {
 }
 
 impl Linked {
-    pub fn span(&self) -> Span {
-        match self.is_super {
-            0 => Span::Base,
-            _ => Span::Super,
-        }
+    pub fn spanned(&self) -> Span {
+        spanned(self.span)
     }
 
     /// The code of the map.
     pub fn code(&self) -> u64 {
-        match self.span() {
+        match self.spanned() {
             Span::Base => 1,
             Span::Super => 2,
         }
@@ -115,10 +112,18 @@ impl Linked {
 
     /// The kind of the tables whose edges count.
     pub fn kind(&self) -> u32 {
-        match self.span() {
+        match self.spanned() {
             Span::Base => 2,
             Span::Super => 3,
         }
+    }
+}
+
+/// Maps and spans: base 1, super 2; what is not super is base.
+pub fn spanned(code: u32) -> Span {
+    match code {
+        2 => Span::Super,
+        _ => Span::Base,
     }
 }
 
@@ -134,7 +139,7 @@ fn original(x: &Linked) -> Outcome {
         p2m: system(&x.edges, &x.frames),
         grant: grant::System(Vec::new()),
     };
-    let answer = check_exact(&hypervisor, x.dom, &maps::entries(&x.map), x.span());
+    let answer = check_exact(&hypervisor, x.dom, &maps::entries(&x.map), x.spanned());
     answer.map_or_else(refusal, |()| ACCEPTED)
 }
 
@@ -157,7 +162,7 @@ impl Display for Linked {
     fn fmt(&self, f: &mut Formatter) -> fmt::Result {
         let Linked {
             dom,
-            is_super,
+            span,
             edges,
             frames,
             ..
@@ -165,7 +170,7 @@ impl Display for Linked {
         let map = maps::shown(&self.map);
         write!(
             f,
-            "domain {dom}, map {map}, span {is_super}, frames {frames:?}, edges {edges:?}"
+            "domain {dom}, map {map}, span {span}, frames {frames:?}, edges {edges:?}"
         )
     }
 }

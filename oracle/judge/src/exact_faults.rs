@@ -63,14 +63,32 @@ pub const FAULTS: &[Fault<Linked>] = &[
         "the edges of the other span are taken",
         |x, answer| {
             if answer[0] != 3 {
-                *answer = with(x, |x| x.is_super = (x.is_super == 0).into());
+                *answer = with(x, |x| x.span = if x.span == 2 { 1 } else { 2 });
             }
         },
     ),
     fault(
-        "exact-super-only-by-1",
-        "a span that is another number than 1 is taken for base",
-        |x, answer| *answer = with(x, |x| x.is_super = (x.is_super == 1).into()),
+        "exact-1-as-super",
+        "a span of 1 is taken for super",
+        |x, answer| {
+            if x.span == 1 {
+                *answer = with(x, |x| x.span = 2);
+            }
+        },
+    ),
+    fault(
+        "exact-base-only-by-1",
+        "a span that is another number than 1 is taken for super",
+        |x, answer| {
+            if x.span != 1 {
+                *answer = with(x, |x| x.span = 2);
+            }
+        },
+    ),
+    fault(
+        "exact-span-in-8-bits",
+        "of the span the lowest byte is read",
+        |x, answer| *answer = with(x, |x| x.span %= 256),
     ),
     fault(
         "exact-both-spans",

@@ -3,14 +3,14 @@
 use given_core::p2m::DomId;
 use given_s2::leafmap::Span;
 
-use crate::exact::{exact, Linked};
+use crate::exact::{exact, spanned, Linked};
 use crate::examples::{examples, Example};
 use crate::fill::fill;
 use crate::fill_inputs::{changed, crowded};
 use crate::inputs::{altered, random, Random};
 use crate::map_inputs::{bytes, set};
 use crate::maps::MAP_LEN;
-use crate::record_inputs::{edge_pairs, frame, kinds, leaf, place, tables, writable_leaf, yes};
+use crate::record_inputs::{edge_pairs, frame, kinds, leaf, place, tables, writable_leaf};
 use crate::round::Round;
 
 /// Changes of a map without entries or edges, and the answer to them. Frame 0 is the domain's table
@@ -65,9 +65,32 @@ const EXAMPLES: &[Example<Linked>] = &[
     }),
 ];
 
-/// The examples, tables of any kind, and all pairs of a few edges beside all maps of two entries.
+/// The numbers that are tried as a span: each of them names one.
+const SPANS: &[u64] = &[
+    0,
+    1,
+    2,
+    3,
+    4,
+    (1 << 8) + 2,
+    (1 << 16) + 2,
+    1 << 31,
+    (1 << 31) + 2,
+    u32::MAX as u64,
+];
+
+/// The examples, numbers of the span, tables of any kind, and all pairs of a few edges beside all maps of two entries.
 pub fn small_linked(span: Span) -> impl Iterator<Item = Linked> {
     let unmapped = move || without_edges(3, vec![0; MAP_LEN], span);
+    // Read as the other span's, the map differs at frame 2.
+    let numbers = SPANS.iter().map(|&code| code as u32);
+    let of_number = numbers.filter(move |&code| spanned(code) == span);
+    let of_number = of_number.map(move |code| {
+        altered(unmapped(), |x| {
+            x.span = code;
+            x.edges = vec![leaf(0, 1), leaf(1, 2)];
+        })
+    });
     let of_kind = kinds().map(move |kind| {
         altered(unmapped(), |x| {
             x.frames[0].kind = kind;
@@ -82,23 +105,24 @@ pub fn small_linked(span: Span) -> impl Iterator<Item = Linked> {
         })
     });
     examples(EXAMPLES, unmapped, exact)
+        .chain(of_number)
         .chain(of_kind)
         .chain(paired)
 }
 
 fn without_edges(dom: DomId, map: Vec<u8>, span: Span) -> Linked {
     let mut frames = tables(dom);
-    let is_super = match span {
-        Span::Base => 0,
+    let span = match span {
+        Span::Base => 1,
         Span::Super => {
             frames.swap(0, 1);
-            1 << 31
+            2
         }
     };
     Linked {
         dom,
         map,
-        is_super,
+        span,
         edges: Vec::new(),
         frames,
     }
@@ -115,17 +139,25 @@ fn beside(random: &mut Random, span: Span) -> Linked {
         _ => crowded(random),
     };
     let filled = fill(&x);
-    let (mut map, is_super) = match span {
-        Span::Base => (filled.base, 0),
-        Span::Super => (filled.sup, yes(random)),
+    let (mut map, span) = match span {
+        Span::Base => (filled.base, base_code(random)),
+        Span::Super => (filled.sup, 2),
     };
     change(random, &mut map);
     Linked {
         dom: x.dom,
         map,
-        is_super,
+        span,
         edges: x.edges,
         frames: x.frames,
+    }
+}
+
+/// A number that names the base span.
+fn base_code(random: &mut Random) -> u32 {
+    match random.pick(SPANS) as u32 {
+        2 => 1,
+        code => code,
     }
 }
 

@@ -105,7 +105,7 @@ macro_rules! checked_otherwise {
                 $op,
                 concat!($call, "-handed-no-span"),
                 "the span is 0",
-                x => x.is_super = 0
+                x => x.span = 0
             ),
         ]
     };

@@ -5,9 +5,10 @@ use std::array;
 use std::iter::empty;
 
 use given_core::p2m::DomId;
+use given_s2::leafmap::Span;
 
 use crate::authorized::{anothers, authorized, nobodys, Granted};
-use crate::exact::{exact, Linked};
+use crate::exact::{exact, spanned, Linked};
 use crate::fill::{fill, Filling};
 use crate::function::{Answer, Function, Layer};
 use crate::inputs::{random, Outcome, Random, Words};
@@ -138,7 +139,7 @@ fn beside_edges(call: Call) -> Linked {
     Linked {
         dom: call[1] as DomId,
         map: call[3].to_le_bytes().into(),
-        is_super: call[2] as u32,
+        span: call[2] as u32,
         edges: edges(&call),
         frames: frames(&call),
     }
@@ -197,7 +198,7 @@ fn grant(number: u64) -> Grant {
 fn call(random: &mut Random) -> Call {
     let dom = random.pick(&[3, 3, 0, 65_535]);
     let mut call = [0; 16];
-    call[..3].copy_from_slice(&[1 + random.below(3), dom, random.below(3)]);
+    call[..3].copy_from_slice(&[1 + random.below(3), dom, random.pick(&[0, 1, 2, 2, 3])]);
     call[5..9].fill_with(|| edge_number(random));
     call[9..14].fill_with(|| {
         random.pick(&[dom, dom, dom, dom ^ 1, NOBODY]) | random.pick(&[1, 2, 3, 4]) << 32
@@ -249,10 +250,9 @@ fn map_number(random: &mut Random) -> u64 {
 /// The map that the edges of the span fill.
 fn linked(call: Call) -> u64 {
     let filled = fill(&filling(call));
-    let map = if call[2] == 0 {
-        filled.base
-    } else {
-        filled.sup
+    let map = match spanned(call[2] as u32) {
+        Span::Base => filled.base,
+        Span::Super => filled.sup,
     };
     u64::from_le_bytes(map.try_into().expect("eight entries"))
 }

@@ -18,8 +18,8 @@ of-span s span =
     let a = s .args in
     outcomeWords (first (exactRows (now (a .frames)) (a .dom) span (edgesOf (now (a .edges))) (now (a .map))))
 
-span-numbered-requires : tie.Need-span-numbered-requires
-span-numbered-requires c κs = search needs
+of-requires : tie.Need-of-requires
+of-requires c κs = search needs
 
 check-exact-requires : tie.Need-check-exact-requires
 check-exact-requires c κs = search needs
@@ -31,8 +31,8 @@ returns : tie.Need-returns
 returns c =
     let v = c .before .before in
     let s = v .before in
-    c .answer .ensures ∙ ap outcomeWords (v .check-exact .ensures) ∙ ap (of-span (s .before .before)) (s .span-numbered .ensures)
+    c .answer .ensures ∙ ap outcomeWords (v .check-exact .ensures) ∙ ap (of-span (s .before .before)) (s .of .ensures)
 
 pub s2-exact-spec : {M : Type 1} → statement M
 s2-exact-spec =
-    tie.close (tie.spec span-numbered-requires check-exact-requires answer-requires returns)
+    tie.close (tie.spec of-requires check-exact-requires answer-requires returns)

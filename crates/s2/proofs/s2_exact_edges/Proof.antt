@@ -39,14 +39,19 @@ use denote.Triple.Clauses.{ensured, lasts}
 use denote.Exit.{yes}
 use Rattle.edge.specs.declared.Edge.{Edge}
 use Rattle.exact.specs.Exact.{exactRows}
+use Rattle.p2m.specs.Frame.{spanNamed}
 use Rattle.p2m.specs.declared.Span.{Span}
 use Rattle.refusal.specs.Outcome.{outcomeOf, outcomeWords}
 use Rattle.refusal.specs.Table.{first}
 use Rattle.refusal.specs.declared.Verdict.{Verdict}
-use Rattle.s2.specs.Answers.{spanNumbered, exactAnswer}
+use Rattle.s2.specs.Answers.{exactAnswer}
 use Rattle.edge.proofs.Edge as E
 use Rattle.p2m.proofs.Span as S
 use Rattle.p2m.proofs.Span.Laws as S′
+use Rattle.p2m.proofs.Span.of as span-of
+use Rattle.p2m.proofs.Span.of.Symbol as span-of-def
+use Rattle.p2m.proofs.Span.of.Symbol.{name as #span-of}
+use Rattle.p2m.proofs.Span.of.Met as span-of-thm
 use Rattle.refusal.proofs.Verdict as R
 use Rattle.refusal.proofs.Verdict.Laws as R′
 use Rattle.exact_edges.proofs.check_exact as check
@@ -57,10 +62,6 @@ use Rattle.s2.proofs.Answered.{Eight, Frame, lent, Lent, last, Tells, A
 use Rattle.s2.proofs.answer.Symbol as answer-def
 use Rattle.s2.proofs.answer.Symbol.{name as #answer}
 use Rattle.s2.proofs.answer.Met as answer-thm
-use Rattle.s2.proofs.span_numbered as span-numbered
-use Rattle.s2.proofs.span_numbered.Symbol as span-numbered-def
-use Rattle.s2.proofs.span_numbered.Symbol.{name as #span-numbered}
-use Rattle.s2.proofs.span_numbered.Met as span-numbered-thm
 use Rattle.s2.proofs.s2_exact_edges.Key.{name as #s2-exact-edges}
 use Rattle.s2.proofs.s2_exact_edges as here
 use Rattle.s2.proofs.s2_exact_edges.Statement as stated
@@ -86,7 +87,7 @@ stayed =
 -- the contracts that the proof cites
 module _ {M : Type 1} (𝓤 : URA M) (H : Heap 𝓤) (A : Atoms 𝓤) (mem : Memory → SProp 𝓤) (run : Routine → Fun 𝓤) where
   abbrev Spanned : Contract 𝓤
-  Spanned = tripleOf 𝓤 H A span-numbered.signature (span-numbered.spec 𝓤 H A mem run)
+  Spanned = tripleOf 𝓤 H A span-of.signature (span-of.spec 𝓤 H A mem run)
 
   abbrev Check : Contract 𝓤
   Check = tripleOf 𝓤 H A check.signature (check.spec 𝓤 H A mem run)
@@ -132,8 +133,8 @@ module _
     asks-span = qed W [] ∵ nothing ! $ owned ! u32 (Is u32) (uint-makes 𝓤 H A W w32) n _ (refl, is-n) $ fjoin ! $ nothing ! $ join ! $ frame ! $ done !
 
     -- of a callee's `ensured`, the clause alone: neither has a `&mut`, so what is said of last values is dropped
-    says-span : (span : Span) → ent 𝓤 (ensured 𝓤 H A span-numbered.ended (span-numbered.clauses 𝓤 H A mem run) tt (n, tt) tt span) (fact 𝓤 (span ≡ spanNumbered n))
-    says-span span = exE 𝓤 _ (λ ws. snd∗ 𝓤 (sem 𝓤 H A (lasts span-numbered.ended tt (n, tt) ws)) _)
+    says-span : (span : Span) → ent 𝓤 (ensured 𝓤 H A span-of.ended (span-of.clauses 𝓤 H A mem run) tt (n, tt) tt span) (fact 𝓤 (span ≡ spanNamed n))
+    says-span span = exE 𝓤 _ (λ ws. snd∗ 𝓤 (sem 𝓤 H A (lasts span-of.ended tt (n, tt) ws)) _)
 
     -- the call of `check_exact`, for a span at the machine value v
     abbrev to-check : Span → Val → Check 𝓤 H A mem run .Ghost
@@ -158,7 +159,7 @@ module _
     says-check : (span : Span) (verdict : Verdict) → ent 𝓤 (ensured 𝓤 H A check.ended (check.clauses 𝓤 H A mem run) (κ₀, (κ₁, (κ₂, tt))) (dom, (leaves, (span, (edges, (frames, tt))))) tt verdict) (fact 𝓤 (Checked span verdict))
     says-check span verdict = exE 𝓤 _ (λ ws. snd∗ 𝓤 (sem 𝓤 H A (lasts check.ended (κ₀, (κ₁, (κ₂, tt))) (dom, (leaves, (span, (edges, (frames, tt))))) ws)) _)
 
-    is-answer : (span : Span) (verdict : Verdict) (r : ℕ) (ws : List ℕ) → span ≡ spanNumbered n → Checked span verdict → Tells verdict r ws → (r ∷ ws) ≡ exactAnswer dom (now leaves) n (now edges) (now frames)
+    is-answer : (span : Span) (verdict : Verdict) (r : ℕ) (ws : List ℕ) → span ≡ spanNamed n → Checked span verdict → Tells verdict r ws → (r ∷ ws) ≡ exactAnswer dom (now leaves) n (now edges) (now frames)
     is-answer span verdict r ws spanned checked tells =
         tells ∙ ap outcomeWords checked ∙ ap (λ (s : Span). outcomeWords (first (exactRows (now frames) dom s (now edges) (now leaves)))) spanned
 
@@ -175,7 +176,7 @@ module _
 
     -- the MIR
     walk : (𝓣 : Tables 𝓤 H) → FmC 𝓤 H (W .laws) (𝓣 .C)
-        → Triple 𝓤 (𝓣 .C #span-numbered) (Spanned 𝓤 H A mem run) → Triple 𝓤 (𝓣 .C #check-exact) (Check 𝓤 H A mem run) → Triple 𝓤 (𝓣 .C #answer) (Answer 𝓤 H A mem run)
+        → Triple 𝓤 (𝓣 .C #span-of) (Spanned 𝓤 H A mem run) → Triple 𝓤 (𝓣 .C #check-exact) (Check 𝓤 H A mem run) → Triple 𝓤 (𝓣 .C #answer) (Answer 𝓤 H A mem run)
         → Is (ShrSlice (named 0) κ₀ u8) leaves (lv ∷ []) → Is (ShrSlice (named 1) κ₁ E.the-row) edges (ev ∷ []) → Is (ShrSlice (named 2) κ₂ Frame) frames (fv ∷ [])
         → ent 𝓤 Had (WpFn 𝓤 H (𝓣 .C) (𝓣 .Λ) code.function (vint w16 dom ∷ lv ∷ vint w32 n ∷ ev ∷ fv ∷ vptr b o ∷ []) Post)
     walk 𝓣 fm known-span known-check known-answer is-leaves is-edges is-frames =
@@ -187,8 +188,8 @@ module _
         -- [_9; …; _8; …; _7; …; _6; …; _5; …; _4; …; _3; …; _2; …; _1; …; room for _0; …; what is had at entry]
         use0 W (raw (Spanned 𝓤 H A mem run .pre to-span)) asks-span $
         calls-at ! fm (Spanned 𝓤 H A mem run) known-span to-span (and-then ! (load ! (from ! (stop !)) (look ! 13 refl)) (no-more !)) (λ v.
-        use1 W (later (some (λ (r : Span). (‵ ftrue ⊛ ‵ (S.the-row .own r (v ∷ []))) ⊛ raw (ensured 𝓤 H A span-numbered.ended (span-numbered.clauses 𝓤 H A mem run) tt (n, tt) tt r)))) (id⊢ 𝓤 _) $ await ! tt $ pick ! (λ span.
-        split ! $ move ! (1 ∷ []) $ use1 W (raw (fact 𝓤 (span ≡ spanNumbered n))) (says-span span) $ heard ! (span ≡ spanNumbered n) (λ spanned. split ! $ drop ! $
+        use1 W (later (some (λ (r : Span). (‵ ftrue ⊛ ‵ (S.the-row .own r (v ∷ []))) ⊛ raw (ensured 𝓤 H A span-of.ended (span-of.clauses 𝓤 H A mem run) tt (n, tt) tt r)))) (id⊢ 𝓤 _) $ await ! tt $ pick ! (λ span.
+        split ! $ move ! (1 ∷ []) $ use1 W (raw (fact 𝓤 (span ≡ spanNamed n))) (says-span span) $ heard ! (span ≡ spanNamed n) (λ spanned. split ! $ drop ! $
         facts ! S.the-row (Is S.the-row) (shows 𝓤 H A S.the-row) span (v ∷ []) (λ is-span.
         land ! (from ! (stop !)) (init ! 4 refl (EL.lawful S.the-type S′.the-laws 𝓤 H A W tt .typed span _ is-span .0)) $
         -- what is lent for reading goes to `check_exact`
@@ -219,7 +220,7 @@ module _
 
 module _
     {M : Type 1} (𝓤 : URA M) (H : Heap 𝓤) (A : Atoms 𝓤) (W : Given 𝓤 H A) (mem : Memory → SProp 𝓤) (run : Routine → Fun 𝓤) (𝓣 : Tables 𝓤 H)
-    (known-span : Triple 𝓤 (𝓣 .C #span-numbered) (Spanned 𝓤 H A mem run)) (known-check : Triple 𝓤 (𝓣 .C #check-exact) (Check 𝓤 H A mem run)) (known-answer : Triple 𝓤 (𝓣 .C #answer) (Answer 𝓤 H A mem run))
+    (known-span : Triple 𝓤 (𝓣 .C #span-of) (Spanned 𝓤 H A mem run)) (known-check : Triple 𝓤 (𝓣 .C #check-exact) (Check 𝓤 H A mem run)) (known-answer : Triple 𝓤 (𝓣 .C #answer) (Answer 𝓤 H A mem run))
   where
     walks : Walks 𝓤 H A here.ended stayed (WpFn 𝓤 H (𝓣 .C) (𝓣 .Λ) code.function) (here.clauses 𝓤 H A mem run)
     walks = walked 𝓤 H A here.ended stayed (here.clauses 𝓤 H A mem run) (WpFn 𝓤 H (𝓣 .C) (𝓣 .Λ) code.function)
@@ -242,6 +243,6 @@ s2-exact-edges-spec 𝓤 H 𝓜 𝓖 𝓡 =
     entered 𝓤 H (tripleOf 𝓤 H (𝓖 .A) here.signature (here.spec 𝓤 H (𝓖 .A) (𝓜 .mem) (𝓡 .run)))
     (tables 𝓤 H 𝓜 𝓡 code.env .C) (tables 𝓤 H 𝓜 𝓡 code.env .Λ) #s2-exact-edges code.function (code.unfolded 𝓤 H 𝓜 𝓡)
     (meets 𝓤 H (𝓖 .A) (givenOf 𝓤 H 𝓜 𝓖) (𝓜 .mem) (𝓡 .run) (tablesOf 𝓤 H 𝓜 (tables 𝓤 H 𝓜 𝓡 code.env))
-    (cited 𝓤 H (Spanned 𝓤 H (𝓖 .A) (𝓜 .mem) (𝓡 .run)) 𝓜 𝓡 code.env #span-numbered span-numbered-def.routine code.calls-s2·span-numbered (span-numbered-thm.met 𝓤 H 𝓜 𝓖 𝓡))
+    (cited 𝓤 H (Spanned 𝓤 H (𝓖 .A) (𝓜 .mem) (𝓡 .run)) 𝓜 𝓡 code.env #span-of span-of-def.routine code.calls-p2m·Span·of (span-of-thm.met 𝓤 H 𝓜 𝓖 𝓡))
     (cited 𝓤 H (Check 𝓤 H (𝓖 .A) (𝓜 .mem) (𝓡 .run)) 𝓜 𝓡 code.env #check-exact check-def.routine code.calls-exact-edges·check-exact (check-thm.met 𝓤 H 𝓜 𝓖 𝓡))
     (cited 𝓤 H (Answer 𝓤 H (𝓖 .A) (𝓜 .mem) (𝓡 .run)) 𝓜 𝓡 code.env #answer answer-def.routine code.calls-s2·answer (answer-thm.met 𝓤 H 𝓜 𝓖 𝓡)))

@@ -104,7 +104,7 @@ pub fn exact<E>(call: Exact<E>, edges: &[E], x: &Linked, values: &mut Words) -> 
             x.dom,
             x.map.as_ptr(),
             x.map.len(),
-            x.is_super,
+            x.span,
             edges.as_ptr(),
             edges.len(),
             x.frames.as_ptr(),

@@ -66,7 +66,7 @@ fn linked(count: usize) -> Linked {
     Linked {
         dom: DOM,
         map: fill(&x).base,
-        is_super: 0,
+        span: 1,
         edges: x.edges,
         frames: x.frames,
     }
