@@ -55,22 +55,25 @@ pub struct Check {
 }
 
 impl Layout {
+    // What nine index bits tell apart: the words of a table, as an address counts them.
+    pub const INDICES: u64 = 512;
+
     // What a word of level 3, 2 and 1 maps.
     pub const PAGE_SIZE: u64 = 4096;
 
-    pub const BLOCK_SIZE: u64 = 512 * Self::PAGE_SIZE;
+    pub const BLOCK_SIZE: u64 = Self::INDICES * Self::PAGE_SIZE;
 
-    pub const L1_ENTRY_SIZE: u64 = 512 * Self::BLOCK_SIZE;
+    pub const L1_ENTRY_SIZE: u64 = Self::INDICES * Self::BLOCK_SIZE;
 
     // The first address that the nine index bits of level 1 do not reach.
-    pub const ADDRESSABLE: u64 = 512 * Self::L1_ENTRY_SIZE;
+    pub const ADDRESSABLE: u64 = Self::INDICES * Self::L1_ENTRY_SIZE;
     // The first address that a descriptor cannot hold.
     pub const OUTPUT_LIMIT: u64 = 0x1_0000_0000_0000;
     // The first count of blocks whose length leaves 64 bits.
     pub const UNCOUNTABLE: u64 = 0x800_0000_0000;
 
     // The words of a table, and the most entries of a map.
-    pub const ENTRIES: usize = 512;
+    pub const ENTRIES: usize = Self::INDICES as usize;
 
     pub const TABLES: usize = 6;
 
@@ -159,14 +162,14 @@ impl Layout {
     pub fn l1_index(x: u64) -> u64
         ensures { λ r. ⌜ r ≡ l1Slot x ⌝ }
     {
-        x / Self::L1_ENTRY_SIZE % 512
+        x / Self::L1_ENTRY_SIZE % Self::INDICES
     }
 
     // The level 2 entry of an address.
     pub fn l2_index(x: u64) -> u64
         ensures { λ r. ⌜ r ≡ l2Slot x ⌝ }
     {
-        x / Self::BLOCK_SIZE % 512
+        x / Self::BLOCK_SIZE % Self::INDICES
     }
 
     pub fn data_window(self) -> Window
@@ -177,7 +180,7 @@ impl Layout {
             present: true,
             ipa: self.data_ipa_base,
             pa: self.data_pa_base,
-            span: 512 * Self::PAGE_SIZE,
+            span: Self::INDICES * Self::PAGE_SIZE,
         }
     }
 

@@ -15,8 +15,8 @@ fn main() {
 
 // Whether there was a whole line.
 fn replay_line() -> bool {
-    let mut x = [0; 17];
-    for i in 0..17 {
+    let mut x = [0; Layout::NUMBERS];
+    for i in 0..Layout::NUMBERS {
         let Read::Number(n) = lines::read_number() else {
             return false;
         };

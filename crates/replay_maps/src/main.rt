@@ -8,6 +8,9 @@ use refusal::Verdict;
 // More lines than any recording has: a proved loop has to end.
 const LINES: u32 = 1_000_000;
 
+// The numbers of a call.
+const NUMBERS: usize = 16;
+
 fn main() {
     let mut left = LINES;
     while left > 0 && replay_line() {
@@ -17,8 +20,8 @@ fn main() {
 
 // Whether there was a whole line.
 fn replay_line() -> bool {
-    let mut x = [0; 16];
-    for i in 0..16 {
+    let mut x = [0; NUMBERS];
+    for i in 0..NUMBERS {
         let Read::Number(n) = lines::read_number() else {
             return false;
         };
@@ -31,7 +34,7 @@ fn replay_line() -> bool {
     }
 }
 
-fn fill(x: &[u64; 16]) -> bool {
+fn fill(x: &[u64; NUMBERS]) -> bool {
     let mut base = bytes(x[3]);
     let mut sup = bytes(x[4]);
     let edges = edges(x);
@@ -41,7 +44,7 @@ fn fill(x: &[u64; 16]) -> bool {
     print_answer(verdict) && print_map(base) && print_map(sup)
 }
 
-fn authorized(x: &[u64; 16]) -> bool {
+fn authorized(x: &[u64; NUMBERS]) -> bool {
     let leaves = bytes(x[3]);
     let frames = frames(x);
     let grants = [grant(x[14]), grant(x[15])];
@@ -50,7 +53,7 @@ fn authorized(x: &[u64; 16]) -> bool {
     print_answer(verdict)
 }
 
-fn exact(x: &[u64; 16]) -> bool {
+fn exact(x: &[u64; NUMBERS]) -> bool {
     let leaves = bytes(x[3]);
     let edges = edges(x);
     let frames = frames(x);
@@ -60,7 +63,7 @@ fn exact(x: &[u64; 16]) -> bool {
     print_answer(verdict)
 }
 
-fn edges(x: &[u64; 16]) -> [[u32; 6]; 4] {
+fn edges(x: &[u64; NUMBERS]) -> [[u32; 6]; 4] {
     [edge(x[5]), edge(x[6]), edge(x[7]), edge(x[8])]
 }
 
@@ -76,7 +79,7 @@ fn edge(n: u64) -> [u32; 6] {
     ]
 }
 
-fn frames(x: &[u64; 16]) -> [[u32; 2]; 5] {
+fn frames(x: &[u64; NUMBERS]) -> [[u32; 2]; 5] {
     [
         frame(x[9]),
         frame(x[10]),

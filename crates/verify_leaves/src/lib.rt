@@ -105,7 +105,7 @@ fn super_index(ipa: u64, m: usize) -> u64
     requires { ⌜ m < entries ⌝ }
     ensures { λ r. ⌜ r ≡ l2Slot (ipa + m * block) ⌝ }
 {
-    (ipa / Layout::BLOCK_SIZE + m as u64) % 512
+    (ipa / Layout::BLOCK_SIZE + m as u64) % Layout::INDICES
 }
 
 // Table 6.

@@ -121,9 +121,9 @@ fn index_at(left: u32, ipa: u64) -> usize
     ensures { λ r. ⌜ r < entries ⌝ }
 {
     match left {
-        0 => (ipa / Layout::PAGE_SIZE % 512) as usize,
-        1 => (ipa / Layout::BLOCK_SIZE % 512) as usize,
-        _ => (ipa / Layout::L1_ENTRY_SIZE % 512) as usize,
+        0 => (ipa / Layout::PAGE_SIZE % Layout::INDICES) as usize,
+        1 => (ipa / Layout::BLOCK_SIZE % Layout::INDICES) as usize,
+        _ => (ipa / Layout::L1_ENTRY_SIZE % Layout::INDICES) as usize,
     }
 }
 
