@@ -123,7 +123,7 @@ fn exact_line<E>(call: &str, port: Exact<E>, x: &Linked, lent: fn(Edge) -> E) {
     line.print(
         || {
             let (hypervisor, map) = black_box((&hypervisor, &map));
-            black_box(check_exact(hypervisor, x.dom, map, x.span())).is_ok()
+            black_box(check_exact(hypervisor, x.dom, map, x.spanned())).is_ok()
         },
         || calls::exact(port, black_box(&edges), black_box(x), &mut values),
     );
