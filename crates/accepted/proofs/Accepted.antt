@@ -17,7 +17,7 @@ use Rattle.layout.specs.declared.Window.{Window}
 use Rattle.refusal.proofs.None.{none, both, test, under, each-none, pairs-none}
 use Rattle.refusal.specs.All.{All, AllPairs}
 use Rattle.refusal.specs.Table.{each, pairs}
-use Rattle.rows.specs.Rows.{row4, row5, row6, row7, row8, row9, row10, row11, overlap, row12, pairRows, windowRows, refusalsAt}
+use Rattle.rows.specs.Rows.{capped, row4, row5, row6, row7, row8, row9, row10, row11, overlap, row12, pairRows, windowRows, refusalsAt}
 use Rattle.accepted.specs.Accepted.{Nameable, Within, Disjoint, Apart, AcceptedFacts, NoInputOverlap}
 
 neither : (a b : Bool) → (a || b) ≡ false → (a ≡ false) × (b ≡ false)
@@ -130,15 +130,16 @@ checked n applies base align e p =
 pub accepted-facts : AcceptedFacts
 unfolding refusalsAt windowRows flatMap row4 row5 row8
 accepted-facts limit l e =
+    let held = capped limit in
     let rows = none _ e in
     let r4 = both (row4 l) _ rows in
     let r5 = both (row5 l) _ (r4 .1) in
     let r6 = both (each row6 (checksOf l)) _ (r5 .1) in
-    let r7 = both (each (row7 limit) (tablesOf l)) _ (r6 .1) in
+    let r7 = both (each (row7 held) (tablesOf l)) _ (r6 .1) in
     let r8 = both (row8 l) _ (r7 .1) in
-    let rest = both (windowRows limit (windowsOf l)) [] (r8 .1) .0 in
+    let rest = both (windowRows held (windowsOf l)) [] (r8 .1) .0 in
     let r9 = both (each row9 (windowsOf l)) _ rest in
-    let r10 = both (each (row10 limit) (windowsOf l)) _ (r9 .1) in
+    let r10 = both (each (row10 held) (windowsOf l)) _ (r9 .1) in
     let r11 = both (pairs pairRows (windowsOf l)) [] (r10 .1) in
     let within = each-none row9 (windowsOf l) (r9 .0) in
     let six = each-none row6 (checksOf l) (r6 .0) in
@@ -151,8 +152,8 @@ accepted-facts limit l e =
       sup-pa = checked 4 true _ _ (six .1 .1 .1 .0) refl;
       image = checked 5 _ _ _ (six .1 .1 .1 .1 .0);
       device = checked 6 _ _ _ (six .1 .1 .1 .1 .1 .0);
-      tables = nameable-all limit (tablesOf l) (each-none (row7 limit) (tablesOf l) (r7 .0));
+      tables = nameable-all held (tablesOf l) (each-none (row7 held) (tablesOf l) (r7 .0));
       frames = leb-false _ _ (test _ _ _ (r8 .0));
-      windows = within-all limit (windowsOf l) within (each-none (row10 limit) (windowsOf l) (r10 .0));
+      windows = within-all held (windowsOf l) within (each-none (row10 held) (windowsOf l) (r10 .0));
       apart = apart-all (windowsOf l) within (pairs-none pairRows (windowsOf l) (r11 .0));
     }

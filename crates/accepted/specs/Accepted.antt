@@ -1,18 +1,18 @@
 -- What is known of a layout that rows 4 to 12 let by.
-use Prim.Native.Nat.{ℕ, _+_, _%_, _^_, _≤_, _<_}
+use Prim.Native.Nat.{ℕ, _+_, _%_, _≤_, _<_}
 use mathlib.Core.Bool.{true, false}
 use mathlib.Core.List.{[]}
 use mathlib.Core.Logic.{_⊎_}
 use mathlib.Core.Path.{_≡_}
 use Rattle.layout.specs.Layout.{tablesOf}
-use Rattle.layout.specs.Size.{page, block, l1Span, inputLimit}
+use Rattle.layout.specs.Size.{page, block, l1Span, inputLimit, uncountable}
 use Rattle.layout.specs.Window.{imageWindow, deviceWindow, windowsOf, slot}
 use Rattle.layout.specs.declared.Layout.{Layout}
 use Rattle.layout.specs.declared.Table.{Table}
 use Rattle.layout.specs.declared.Window.{Window}
 use Rattle.refusal.specs.All.{All, AllPairs}
 use Rattle.refusal.specs.Table.{accepted, first}
-use Rattle.rows.specs.Rows.{refusalsAt, overlap, row9, row11}
+use Rattle.rows.specs.Rows.{capped, refusalsAt, overlap, row9, row11}
 
 -- a table's address can be named
 pub record Nameable (limit : ℕ) (t : Table) : Type 0 where
@@ -44,12 +44,12 @@ pub record Accepted (limit : ℕ) (l : Layout) : Type 0 where
   pub image : imageWindow (l .«guest_image_pa») .present ≡ true → imageWindow (l .«guest_image_pa») .ipa % block ≡ 0
   pub device : deviceWindow l .present ≡ true → l .«device_base» % block ≡ 0
   pub tables : All (Nameable limit) (tablesOf l)
-  pub frames : l .«sup_frames» < 2 ^ 43
+  pub frames : l .«sup_frames» < uncountable
   pub windows : All (λ w. w .present ≡ true → Within limit w) (windowsOf l)
   pub apart : AllPairs (λ v w. v .present ≡ true → w .present ≡ true → Apart v w) (windowsOf l)
 
 abbrev pub AcceptedFacts : Type 0
-AcceptedFacts = (limit : ℕ) (l : Layout) → first (refusalsAt limit l) ≡ accepted → Accepted limit l
+AcceptedFacts = (limit : ℕ) (l : Layout) → first (refusalsAt limit l) ≡ accepted → Accepted (capped limit) l
 
 -- 'WindowsOverlap' with space "ipa" can't occur after 9 and 11
 abbrev pub NoInputOverlap : Type 0

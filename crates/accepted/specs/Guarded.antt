@@ -8,7 +8,7 @@ use Rattle.layout.specs.Size.{entries, arenaLength}
 use Rattle.layout.specs.declared.Layout.{Layout}
 use Rattle.refusal.specs.All.{AllPairs}
 use Rattle.refusal.specs.Table.{accepted, first}
-use Rattle.rows.specs.Rows.{guardRows, arenaGuardRows}
+use Rattle.rows.specs.Rows.{capped, guardRows, arenaGuardRows}
 use Rattle.accepted.specs.Accepted.{Accepted}
 
 -- a map that can be read
@@ -26,10 +26,10 @@ pub record Guarded (limit : ℕ) (base sup : List ℕ) (l : Layout) : Type 0 whe
 abbrev pub GuardedFacts : Type 0
 GuardedFacts =
     (limit : ℕ) (base sup : List ℕ) (l : Layout) →
-    first (guardRows limit base sup l) ≡ accepted → Guarded limit base sup l
+    first (guardRows limit base sup l) ≡ accepted → Guarded (capped limit) base sup l
 
 abbrev pub ArenaGuardedFacts : Type 0
 ArenaGuardedFacts =
     (limit : ℕ) (arena base sup : List ℕ) (l : Layout) →
     first (arenaGuardRows limit arena base sup l) ≡ accepted →
-    (length arena ≡ arenaLength) × Guarded limit base sup l
+    (length arena ≡ arenaLength) × Guarded (capped limit) base sup l

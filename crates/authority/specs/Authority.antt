@@ -38,6 +38,7 @@ row24 grants dom m perm (Domain owner) =
     refuse (permWrites perm && reaches grants dom m false o && not (reaches grants dom m true o)) (WriteEscalation dom m owner)
 row24 grants dom m perm Nobody = []
 
+-- an unmapped entry reaches no frame
 unfoldable pub ownerRows : List Grant → ℕ → ℕ → Entry → Owner → List Row
 ownerRows grants dom m (Mapped perm) owner = row23 grants dom m perm owner ++ row24 grants dom m perm owner
 ownerRows grants dom m Unmapped owner = []

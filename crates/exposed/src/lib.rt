@@ -1,11 +1,14 @@
 // Which table a guest could be given to write: no row compares tables with outputs, so board code asks.
 use layout::Layout;
+use layout::SuperWindow;
 use layout::Table;
 use layout::Window;
 use refusal::Refusal;
 use refusal::Verdict;
+ghost use Prim.Native.Nat.{_<_};
 ghost use mathlib.Core.Path.{_≡_};
 ghost use Rattle.exposed.specs.Exposed.{liesIn, firstWindow, firstTable, exposure, exposureValues, exposureOf};
+ghost use Rattle.layout.specs.Size.{uncountable};
 ghost use Rattle.refusal.specs.Table.{first};
 ghost use Rattle.refusal.specs.Told.{told, after, toldWords};
 ghost use Rattle.rows.specs.Rows.{refusals};
@@ -26,8 +29,19 @@ pub fn exposed_table(l: Layout) -> Exposed
 {
     let verdict = validate::validate(l);
     match verdict {
-        Verdict::Accepted => Exposed::Told(first_table(l.tables(), windows::windows_of(l))),
+        Verdict::Accepted => Exposed::Told(first_exposed(l)),
         Verdict::Refused(refusal) => Exposed::Refused(refusal),
+    }
+}
+
+// After row 8 the super window is counted.
+fn first_exposed(l: Layout) -> Exposure
+    requires { ⌜ l .«sup_frames» < uncountable ⌝ }
+    ensures { λ r. ⌜ r ≡ exposure l ⌝ }
+{
+    match l.super_window() {
+        SuperWindow::Counted(sup) => first_table(l.tables(), windows::windows_of(l, sup)),
+        SuperWindow::Uncountable => Exposure::Nothing,
     }
 }
 

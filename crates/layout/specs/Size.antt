@@ -22,6 +22,10 @@ inputLimit = entries * l1Span
 abbrev pub outputLimit : ℕ
 outputLimit = 2 ^ 48
 
+-- the first count of blocks whose length leaves 64 bits
+abbrev pub uncountable : ℕ
+uncountable = 2 ^ 43
+
 -- six tables
 abbrev pub tableCount : ℕ
 tableCount = 6

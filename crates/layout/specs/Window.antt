@@ -2,11 +2,14 @@
 use Prim.Native.Nat.{ℕ, _*_, _/_, _%_}
 use mathlib.Core.Bool.{Bool, true, false}
 use mathlib.Core.List.{List, [], _∷_}
-use lib.Dec.{ltb}
-use Rattle.layout.specs.Size.{entries, page, block, l1Span}
+use lib.Dec.{leb, ltb}
+use Rattle.fields.specs.Named.{pick}
+use Rattle.layout.specs.Size.{entries, page, block, l1Span, uncountable}
 use Rattle.layout.specs.declared.GuestImage.{GuestImage}
 use Rattle.layout.specs.declared.GuestImage.the-variants.{At, Absent}
 use Rattle.layout.specs.declared.Layout.{Layout}
+use Rattle.layout.specs.declared.SuperWindow.the-variants.{Counted, Uncountable}
+use Rattle.layout.specs.declared.SuperWindow.{SuperWindow}
 use Rattle.layout.specs.declared.Window.{Window}
 
 abbrev pub window : ℕ → Bool → ℕ → ℕ → ℕ → Window
@@ -20,24 +23,24 @@ imageWindow Absent = window 1 false 0 0 0
 abbrev pub dataWindow : Layout → Window
 dataWindow l = window 2 true (l .«data_ipa_base») (l .«data_pa_base») (entries * page)
 
--- so many blocks
-abbrev pub superWindowOf : Layout → ℕ → Window
-superWindowOf l frames = window 3 true (l .«sup_ipa_base») (l .«sup_pa_base») (frames * block)
-
 -- sup_frames blocks
 abbrev pub superWindow : Layout → Window
-superWindow l = superWindowOf l (l .«sup_frames»)
+superWindow l = window 3 true (l .«sup_ipa_base») (l .«sup_pa_base») (l .«sup_frames» * block)
+
+-- the same in 64 bits
+abbrev pub superCounted : Layout → SuperWindow
+superCounted l = pick (leb uncountable (l .«sup_frames»)) Uncountable (Counted (superWindow l))
 
 -- present if its length is above 0
 abbrev pub deviceWindow : Layout → Window
 deviceWindow l = window 4 (ltb 0 (l .«device_len»)) (l .«device_base») (l .«device_base») (l .«device_len»)
 
 -- image, data, super, device: the order of every check
-abbrev pub windowsWith : Layout → ℕ → List Window
-windowsWith l frames = imageWindow (l .«guest_image_pa») ∷ dataWindow l ∷ superWindowOf l frames ∷ deviceWindow l ∷ []
+abbrev pub windowsWith : Layout → Window → List Window
+windowsWith l sup = imageWindow (l .«guest_image_pa») ∷ dataWindow l ∷ sup ∷ deviceWindow l ∷ []
 
 abbrev pub windowsOf : Layout → List Window
-windowsOf l = windowsWith l (l .«sup_frames»)
+windowsOf l = windowsWith l (superWindow l)
 
 -- the level 1 and the level 2 entry of an address
 abbrev pub l1Slot : ℕ → ℕ

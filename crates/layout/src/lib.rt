@@ -3,7 +3,7 @@ ghost use Prim.Native.Nat.{_<_};
 ghost use mathlib.Core.Path.{_≡_};
 ghost use Rattle.layout.specs.Check.{check, checksOf};
 ghost use Rattle.layout.specs.Layout.{layoutOf, imageOf, tablesOf};
-ghost use Rattle.layout.specs.Window.{imageWindow, dataWindow, deviceWindow, l1Slot, l2Slot, slot};
+ghost use Rattle.layout.specs.Window.{imageWindow, dataWindow, superCounted, deviceWindow, l1Slot, l2Slot, slot};
 
 // The address of the guest image, to which it is mapped itself; absent where a guest's code lies in its own memory.
 pub enum GuestImage {
@@ -44,6 +44,12 @@ pub struct Window {
     pub ipa: u64,
     pub pa: u64,
     pub span: u64,
+}
+
+// The super window, if 64 bits hold its length.
+pub enum SuperWindow {
+    Counted(Window),
+    Uncountable,
 }
 
 // A base that must be aligned: its code among row 6's checks, 1 to 6, and whether it is not.
@@ -182,6 +188,23 @@ impl Layout {
             pa: self.data_pa_base,
             span: Self::INDICES * Self::PAGE_SIZE,
         }
+    }
+
+    // Row 8 is its test.
+    pub fn super_window(self) -> SuperWindow
+        ensures { λ r. ⌜ r ≡ superCounted self ⌝ }
+    {
+        if Self::UNCOUNTABLE <= self.sup_frames {
+            return SuperWindow::Uncountable;
+        }
+        let span = self.sup_frames * Self::BLOCK_SIZE;
+        SuperWindow::Counted(Window {
+            code: 3,
+            present: true,
+            ipa: self.sup_ipa_base,
+            pa: self.sup_pa_base,
+            span,
+        })
     }
 
     pub fn device_window(self) -> Window

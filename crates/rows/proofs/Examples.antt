@@ -29,6 +29,7 @@ examples =
       last-output = refl;
       no-frames = refl;
       no-frames-inside = refl;
+      table-past-48-bits = refl;
       table-in-data = refl;
       order = record {
         one-two = refl;

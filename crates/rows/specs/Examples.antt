@@ -6,7 +6,7 @@ use lib.ListN.{replicate, set}
 use Rattle.layout.specs.Layout.{layoutOf, fieldAt}
 use Rattle.layout.specs.Size.{block, outputLimit}
 use Rattle.refusal.specs.Table.{row, Outcome, accepted, refused, first}
-use Rattle.rows.specs.Rows.{arenaGuardRows, refusals}
+use Rattle.rows.specs.Rows.{arenaGuardRows, refusalsAt, refusals}
 
 -- S, by its lines: fields 1 to 10, and no image
 abbrev pub sceneS : List ℕ
@@ -88,6 +88,8 @@ pub record Examples : Type 0 where
   -- strictly inside data's output range
   pub no-frames-inside :
       validated (line 0x10 0 (line 0xC 0x5020_0000 (line 9 0x5000_1000 sceneS))) ≡ refused (row 12 [])
+  -- a limit above 2^48 is 2^48
+  pub table-past-48-bits : first (refusalsAt (2 ^ 64) (layoutOf (line 1 (2 ^ 48) sceneS))) ≡ refused (row 7 (1 ∷ 2 ^ 48 ∷ []))
   -- no row compares tables with outputs
   pub table-in-data : validated (line 9 0x4000_0000 sceneS) ≡ accepted
   pub order : Ordered

@@ -1,12 +1,13 @@
 -- Rows 1 to 14 of document 01's table, and the order in which a layout, and encoding and updates, test them.
-use Prim.Native.Nat.{ℕ, _+_, _%_, _^_}
+use Prim.Native.Nat.{ℕ, _+_, _%_}
 use mathlib.Core.Bool.{Bool, not, _&&_, _||_}
 use mathlib.Core.List.{List, [], _∷_, _++_}
 use lib.Dec.{eqb, leb, ltb}
 use lib.ListN.{length}
+use Rattle.fields.specs.Named.{pick}
 use Rattle.layout.specs.Check.{unaligned, checksOf}
 use Rattle.layout.specs.Layout.{tablesOf}
-use Rattle.layout.specs.Size.{entries, page, block, l1Span, inputLimit, outputLimit, arenaLength}
+use Rattle.layout.specs.Size.{entries, page, block, l1Span, inputLimit, outputLimit, uncountable, arenaLength}
 use Rattle.layout.specs.Window.{windowsOf, slot}
 use Rattle.layout.specs.declared.Check.{Check}
 use Rattle.layout.specs.declared.Layout.{Layout}
@@ -44,7 +45,7 @@ row7 limit t = refuseIf (leb limit (t .pa) || unaligned (t .pa) page) 7 (t .code
 
 -- row 8: sup_frames ≥ 2^43
 unfoldable pub row8 : Layout → List Row
-row8 l = refuseIf (leb (2 ^ 43) (l .«sup_frames»)) 8 (l .«sup_frames» ∷ [])
+row8 l = refuseIf (leb uncountable (l .«sup_frames»)) 8 (l .«sup_frames» ∷ [])
 
 -- row 9: window starts at or past 2^39 or crosses its 1 GiB
 unfoldable pub row9 : Window → List Row
@@ -96,16 +97,20 @@ pairRows v w = given (v .present && w .present) (row11 v w ++ row12 v w)
 unfoldable pub windowRows : ℕ → List Window → List Row
 windowRows limit ws = table (each row9 ws ∷ each (row10 limit) ws ∷ pairs pairRows ws ∷ [])
 
--- a layout: 4 to 12, where tables and outputs lie below the limit
+-- no limit is above 2^48
+abbrev pub capped : ℕ → ℕ
+capped limit = pick (ltb outputLimit limit) outputLimit limit
+
+-- a layout: 4 to 12, where tables and outputs lie below a limit
 unfoldable pub refusalsAt : ℕ → Layout → List Row
 refusalsAt limit l =
     table
     (row4 l
     ∷ row5 l
     ∷ each row6 (checksOf l)
-    ∷ each (row7 limit) (tablesOf l)
+    ∷ each (row7 (capped limit)) (tablesOf l)
     ∷ row8 l
-    ∷ windowRows limit (windowsOf l)
+    ∷ windowRows (capped limit) (windowsOf l)
     ∷ [])
 
 abbrev pub refusals : Layout → List Row

@@ -1,13 +1,14 @@
 // Rows 4 to 12 of document 01's table, of a layout (hv-s2's arm64.rs, `validate`).
 use layout::Check;
 use layout::Layout;
+use layout::SuperWindow;
 use layout::Table;
 use refusal::Refusal;
 use refusal::Verdict;
 ghost use mathlib.Core.Path.{_≡_};
 ghost use Rattle.refusal.specs.Outcome.{outcomeOf};
 ghost use Rattle.refusal.specs.Table.{first, each};
-ghost use Rattle.rows.specs.Rows.{row6, row7, refusalsAt, refusals};
+ghost use Rattle.rows.specs.Rows.{row6, row7, capped, refusalsAt, refusals};
 
 // What encoding assumes of a layout. A layout that breaks it would be mapped wrongly with no fault.
 pub fn validate(l: Layout) -> Verdict
@@ -35,16 +36,27 @@ pub fn validate_at(limit: u64, l: Layout) -> Verdict
     let Verdict::Accepted = aligned else {
         return aligned;
     };
-    let nameable = all_nameable(limit, l.tables());
+    let held = capped(limit);
+    let nameable = all_nameable(held, l.tables());
     let Verdict::Accepted = nameable else {
         return nameable;
     };
-    if Layout::UNCOUNTABLE <= l.sup_frames {
+    let SuperWindow::Counted(sup) = l.super_window() else {
         return Verdict::Refused(Refusal::SuperFramesUncountable {
             count: l.sup_frames,
         });
+    };
+    windows::windows(held, windows::windows_of(l, sup))
+}
+
+// A descriptor holds no address from 2^48 on.
+fn capped(limit: u64) -> u64
+    ensures { λ r. ⌜ r ≡ capped limit ⌝ }
+{
+    if Layout::OUTPUT_LIMIT < limit {
+        return Layout::OUTPUT_LIMIT;
     }
-    windows::windows(limit, windows::windows_of(l))
+    limit
 }
 
 fn all_aligned(cs: [Check; Layout::CHECKS]) -> Verdict

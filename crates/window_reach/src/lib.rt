@@ -1,6 +1,7 @@
 // What the windows say that an address reaches (hv-s2's arm64.rs, `window_reach`): no descriptor is looked at.
 use desc::AccessXn;
 use layout::Layout;
+use layout::SuperWindow;
 use layout::Window;
 use perm::Perm;
 use reach::Reach;
@@ -34,7 +35,11 @@ fn reach_in(base: &[u8], sup: &[u8], l: Layout, ipa: u64) -> Reached
     requires { ⌜ Guarded outputLimit (now base) (now sup) l ⌝ }
     ensures { λ r. ⌜ r ≡ granted l (now (base .entry)) (now (sup .entry)) ipa ⌝ }
 {
-    let ws = windows::windows_of(l);
+    // After row 8 the super window is counted.
+    let SuperWindow::Counted(counted) = l.super_window() else {
+        return Reached::Nothing;
+    };
+    let ws = windows::windows_of(l, counted);
     let image = ws[0];
     if inside(image, ipa) {
         return grant(image, ipa, false, 3);

@@ -3,7 +3,7 @@ use layout::Layout;
 use layout::Window;
 use refusal::Refusal;
 use refusal::Verdict;
-ghost use Prim.Native.Nat.{_+_, _%_, _^_};
+ghost use Prim.Native.Nat.{_+_};
 ghost use mathlib.Core.Path.{_≡_};
 ghost use lib.Dec.{ltb};
 ghost use lib.ListN.{drop};
@@ -12,24 +12,12 @@ ghost use Rattle.refusal.specs.Outcome.{outcomeOf};
 ghost use Rattle.refusal.specs.Table.{first, each, pairs};
 ghost use Rattle.rows.specs.Rows.{row9, row10, pairRows, windowRows};
 
-// The four windows. A super's length is cut to 64 bits, as the Rust's product wraps; row 8 lets by only what is whole.
-pub fn windows_of(l: Layout) -> [Window; Layout::WINDOWS]
-    ensures { λ r. ⌜ r ≡ windowsWith l (l .«sup_frames» % 2 ^ 43) ⌝ }
+// The four windows, with the super window that row 8 let by.
+pub fn windows_of(l: Layout, sup: Window) -> [Window; Layout::WINDOWS]
+    ensures { λ r. ⌜ r ≡ windowsWith l sup ⌝ }
 {
     let image = l.guest_image_pa;
-    let span = l.sup_frames % Layout::UNCOUNTABLE * Layout::BLOCK_SIZE;
-    [
-        image.window(),
-        l.data_window(),
-        Window {
-            code: 3,
-            present: true,
-            ipa: l.sup_ipa_base,
-            pa: l.sup_pa_base,
-            span,
-        },
-        l.device_window(),
-    ]
+    [image.window(), l.data_window(), sup, l.device_window()]
 }
 
 // Rows 9 and 10, each over all windows, then 11 and 12, pair by pair.

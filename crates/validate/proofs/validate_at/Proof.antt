@@ -3,16 +3,17 @@ use Prim.Native.Nat.{ℕ}
 use mathlib.Core.List.{List, [], _∷_, flatMap}
 use mathlib.Core.Path.{_≡_, _∙_, refl, sym, ap}
 use borrow.Author.Needs.{needs}
-use borrow.Author.Tests.{eq-eqb, ne-eqb, le-leb, lt-leb}
+use borrow.Author.Tests.{eq-eqb, ne-eqb}
+use Rattle.layout.proofs.Counted.{counted, uncounted}
 use Rattle.layout.specs.Check.{checksOf}
 use Rattle.layout.specs.Layout.{tablesOf}
-use Rattle.layout.specs.Window.{windowsOf}
+use Rattle.layout.specs.Window.{superCounted, windowsWith, windowsOf}
 use Rattle.layout.specs.declared.Layout.{Layout}
+use Rattle.layout.specs.declared.SuperWindow.the-variants.{Counted, Uncountable}
 use Rattle.refusal.proofs.First.{next, stop, last}
 use Rattle.refusal.specs.Outcome.{outcomeOf}
 use Rattle.refusal.specs.Table.{Row, first, each, table}
-use Rattle.rows.specs.Rows.{row4, row5, row6, row7, row8, windowRows, refusalsAt}
-use Rattle.windows.proofs.Whole.{whole}
+use Rattle.rows.specs.Rows.{row4, row5, row6, row7, row8, windowRows, capped, refusalsAt}
 use Rattle.validate.proofs.validate_at.Statement.{statement}
 use Rattle.validate.proofs.validate_at.Tie as tie
 
@@ -31,9 +32,9 @@ from8 limit l = table (row8 l ∷ windowRows limit (windowsOf l) ∷ [])
 abbrev from9 : ℕ → Layout → List Row
 from9 limit l = table (windowRows limit (windowsOf l) ∷ [])
 
--- the first row is among those that are left
+-- the first row is among those that are left, the limit being cut
 abbrev Left : tie.Start → (ℕ → Layout → List Row) → Type 0
-Left s rows = first (refusalsAt (s .args .limit) (s .args .l)) ≡ first (rows (s .args .limit) (s .args .l))
+Left s rows = first (refusalsAt (s .args .limit) (s .args .l)) ≡ first (rows (capped (s .args .limit)) (s .args .l))
 
 -- where each call is made
 
@@ -44,7 +45,7 @@ abbrev at7 : tie.After-enum-told → tie.Start
 at7 c = at6 (c .before .before .before .before)
 
 abbrev at8 : tie.After-enum-told3 → tie.Start
-at8 c = at7 (c .before .before .before .before)
+at8 c = at7 (c .before .before .before .before .before)
 
 past-5 : (c : tie.Else2) → Left (at6 c) from6
 unfolding refusalsAt row4 row5 flatMap
@@ -63,21 +64,32 @@ past-6 c =
 
 nameable :
     (c : tie.After-all-nameable) →
-    outcomeOf (c .all-nameable .result)
-    ≡ first (each (row7 (at7 (c .before .before) .args .limit)) (tablesOf (at7 (c .before .before) .args .l)))
+    let a = at7 (c .before .before .before) .args in
+    outcomeOf (c .all-nameable .result) ≡ first (each (row7 (capped (a .limit))) (tablesOf (a .l)))
 nameable c =
-    let limit = at7 (c .before .before) .args .limit in
-    c .all-nameable .ensures ∙ ap (λ ts. first (each (row7 limit) ts)) (c .before .tables .ensures)
+    let t = c .before in
+    let l = at7 (t .before .before) .args .l in
+    c .all-nameable .ensures
+    ∙ ap (λ ts. first (each (row7 (t .before .capped .result)) ts)) (t .tables .ensures)
+    ∙ ap (λ (limit : ℕ). first (each (row7 limit) (tablesOf l))) (t .before .capped .ensures)
 
 past-7 : (c : tie.After-enum-told3) → Left (at8 c) from8
 unfolding flatMap
 past-7 c =
     let v = c .before .before in
-    past-6 (v .before .before) ∙ next _ _ (v .all-nameable .result) refl (c .enum-told3 .given .1) (nameable v)
+    past-6 (v .before .before .before) ∙ next _ _ (v .all-nameable .result) refl (c .enum-told3 .given .1) (nameable v)
 
-past-8 : (c : tie.Else3) → Left (at8 (c .before .before)) from9
+-- row 8 is the super window's test
+
+abbrev at9 : tie.After-sup → tie.Start
+at9 c = at8 (c .before .before .before)
+
+is-counted : (c : tie.After-sup) → superCounted (at9 c .args .l) ≡ Counted (c .sup .given .0 .0)
+is-counted c = sym (c .before .before .super-window .ensures) ∙ c .sup .given .1
+
+past-8 : (c : tie.After-sup) → Left (at9 c) from9
 unfolding row8 flatMap
-past-8 c = past-7 (c .before .before) ∙ simp (lt-leb _ _ (c .if3 .left))
+past-8 c = past-7 (c .before .before .before) ∙ simp (counted (at9 c .args .l) (c .sup .given .0 .0) (is-counted c) .0)
 
 returns : tie.Need-returns
 unfolding refusalsAt row4 first flatMap
@@ -106,6 +118,9 @@ returns-3 c =
     let refused = c .enum-told2 .given in
     stop _ _ (v .all-aligned .result) (refused .0 .0) refl (refused .1) (aligned v) ∙ sym (past-5 (v .before .before))
 
+capped-requires : tie.Need-capped-requires
+capped-requires c κs = search needs
+
 tables-requires : tie.Need-tables-requires
 tables-requires c κs = search needs
 
@@ -123,11 +138,25 @@ unfolding flatMap
 returns-4 c =
     let v = c .before .before in
     let refused = c .enum-told4 .given in
-    stop _ _ (v .all-nameable .result) (refused .0 .0) refl (refused .1) (nameable v) ∙ sym (past-6 (v .before .before))
+    stop _ _ (v .all-nameable .result) (refused .0 .0) refl (refused .1) (nameable v)
+    ∙ sym (past-6 (v .before .before .before))
+
+super-window-requires : tie.Need-super-window-requires
+super-window-requires c κs = search needs
+
+enum-known-sup : tie.Need-enum-known-sup
+enum-known-sup c = search needs
+
+enum-told-5 : tie.Need-enum-told-5
+enum-told-5 c = search needs
 
 returns-5 : tie.Need-returns-5
 unfolding row8 first flatMap
-returns-5 c = rw (past-7 (c .before .before), le-leb _ _ (c .if3 .taken))
+returns-5 c =
+    let v = c .before .before in
+    let l = at8 (v .before) .args .l in
+    let none : superCounted l ≡ Uncountable = sym (v .super-window .ensures) ∙ c .enum-told5 .given .1 in
+    rw (past-7 (v .before), uncounted l none)
 
 windows-of-requires : tie.Need-windows-of-requires
 windows-of-requires c κs = search needs
@@ -138,10 +167,15 @@ windows-requires c κs = search needs
 returns-6 : tie.Need-returns-6
 unfolding flatMap
 returns-6 c =
-    let e = c .before .before in
-    let a = at8 (e .before .before) .args in
+    let e = c .before .before .before in
+    let l = at9 e .args .l in
+    let held = e .before .before .before .before .before .before .before .capped in
+    let sup = e .sup .given .0 .0 in
     last _ (c .windows .result) refl
-    (c .windows .ensures ∙ ap (λ ws. first (windowRows (a .limit) ws)) (c .before .windows-of .ensures ∙ whole (a .l) (e .if3 .left)))
+    (c .windows .ensures
+    ∙ ap (λ ws. first (windowRows (held .result) ws))
+    (c .before .windows-of .ensures ∙ ap (windowsWith l) (counted l sup (is-counted e) .1))
+    ∙ ap (λ (limit : ℕ). first (windowRows limit (windowsOf l))) (held .ensures))
     ∙ sym (past-8 e)
 
 pub validate-at-spec : {M : Type 1} → statement M
@@ -155,11 +189,15 @@ validate-at-spec =
     enum-told
     enum-told-2
     returns-3
+    capped-requires
     tables-requires
     all-nameable-requires
     enum-told-3
     enum-told-4
     returns-4
+    super-window-requires
+    enum-known-sup
+    enum-told-5
     returns-5
     windows-of-requires
     windows-requires

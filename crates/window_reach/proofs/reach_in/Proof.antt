@@ -7,10 +7,10 @@ use native.Mathlib.Omega.{arith}
 use lib.ListN.{getD}
 use borrow.Author.Needs.{needs}
 use denote.Ref.{now}
+use Rattle.layout.proofs.Counted.{counted, always}
 use Rattle.layout.specs.Size.{outputLimit}
-use Rattle.layout.specs.Window.{window, windowsOf}
+use Rattle.layout.specs.Window.{window, windowsWith, windowsOf}
 use Rattle.layout.specs.declared.Window.{Window}
-use Rattle.windows.proofs.Whole.{whole}
 use Rattle.window_reach.specs.Granted.{Region, imageRegion, dataRegion, superRegion, deviceRegion, byEntry, grantedBy, granted}
 use Rattle.window_reach.proofs.Grants.{here, past, output}
 use Rattle.window_reach.proofs.reach_in.Statement.{statement}
@@ -45,8 +45,11 @@ ws-3 c = ws-2 (c .before .before .before)
 abbrev ws-4 : tie.After-inside4 → tie.After-windows-of
 ws-4 c = ws-3 (c .before .before .before)
 
+abbrev at-counted : tie.After-windows-of → tie.After-counted
+at-counted c = c .before .before
+
 abbrev start : tie.After-windows-of → tie.Start
-start c = c .before .before .before
+start c = at-counted c .before .before .before .before .before
 
 abbrev none : Window
 none = window 0 false 0 0 0
@@ -56,8 +59,10 @@ win c k = getD (c .windows-of .result) k none
 
 is : (c : tie.After-windows-of) (k : ℕ) → win c k ≡ getD (windowsOf (start c .args .l)) k none
 is c k =
-    let s = start c in
-    ap (λ ws. getD ws k none) (c .windows-of .ensures ∙ whole (s .args .l) (s .pre .layout .frames))
+    let l = start c .args .l in
+    let w = at-counted c in
+    let found = sym (w .before .before .super-window .ensures) ∙ w .counted .given .1 in
+    ap (λ ws. getD ws k none) (c .windows-of .ensures ∙ ap (windowsWith l) (counted l (w .counted .given .0 .0) found .1))
 
 past-image : (c : tie.Else1) → Left (start (ws-1 (c .before))) (from-data (start (ws-1 (c .before))))
 past-image c =
@@ -84,6 +89,21 @@ past-super c =
     ∙ past (superRegion (s .args .l) (now (s .args .sup))) (from-device s) (s .args .ipa) (win v 2) (is v 2) (i .inside3 .result)
     (i .inside3 .ensures) (c .if3 .left)
 
+super-window-requires : tie.Need-super-window-requires
+super-window-requires c κs = search needs
+
+enum-known-counted : tie.Need-enum-known-counted
+enum-known-counted c = search needs
+
+enum-told : tie.Need-enum-told
+enum-told c = search needs
+
+returns : tie.Need-returns
+returns c =
+    let v = c .before .before in
+    let s = v .before .before .before in
+    absurd (always (s .args .l) (s .pre .layout .frames) (sym (v .super-window .ensures) ∙ c .enum-told .given .1))
+
 windows-of-requires : tie.Need-windows-of-requires
 windows-of-requires c κs = search needs
 
@@ -103,8 +123,8 @@ grant-requires c κs =
       output (imageRegion (s .args .l)) [] (s .args .ipa) (win v 0) (is v 0) (i .inside .result) (i .inside .ensures) outputLimit within (c .if1 .taken),
     )
 
-returns : tie.Need-returns
-returns c =
+returns-2 : tie.Need-returns-2
+returns-2 c =
     let t = c .before in
     let i = t .before in
     let s = start (ws-1 i) in
@@ -133,8 +153,8 @@ grant-requires-2 c κs =
       output r [] (s .args .ipa) (win v 1) (is v 1) (i .inside2 .result) (i .inside2 .ensures) outputLimit within (t .if2 .taken),
     )
 
-returns-2 : tie.Need-returns-2
-returns-2 c =
+returns-3 : tie.Need-returns-3
+returns-3 c =
     let e = c .before in
     let t = e .before in
     let i = t .before in
@@ -166,8 +186,8 @@ grant-requires-3 c κs =
       output r [] (s .args .ipa) (win v 2) (is v 2) (i .inside3 .result) (i .inside3 .ensures) outputLimit within (t .if3 .taken),
     )
 
-returns-3 : tie.Need-returns-3
-returns-3 c =
+returns-4 : tie.Need-returns-4
+returns-4 c =
     let e = c .before in
     let t = e .before in
     let i = t .before in
@@ -194,8 +214,8 @@ grant-requires-4 c κs =
       output (deviceRegion (s .args .l)) [] (s .args .ipa) (win v 3) (is v 3) (i .inside4 .result) (i .inside4 .ensures) outputLimit within (c .if4 .taken),
     )
 
-returns-4 : tie.Need-returns-4
-returns-4 c =
+returns-5 : tie.Need-returns-5
+returns-5 c =
     let t = c .before in
     let i = t .before in
     let s = start (ws-4 i) in
@@ -203,9 +223,9 @@ returns-4 c =
     c .grant4 .ensures
     ∙ sym (past-super (i .before .before) ∙ here (deviceRegion (s .args .l)) [] (s .args .ipa) (win v 3) (is v 3) (i .inside4 .result) (i .inside4 .ensures) (t .if4 .taken))
 
-returns-5 : tie.Need-returns-5
+returns-6 : tie.Need-returns-6
 unfolding grantedBy
-returns-5 c =
+returns-6 c =
     let i = c .before in
     let s = start (ws-4 i) in
     let v = ws-4 i in
@@ -215,23 +235,27 @@ pub reach-in-spec : {M : Type 1} → statement M
 reach-in-spec =
     tie.close
     (tie.spec
+    super-window-requires
+    enum-known-counted
+    enum-told
+    returns
     windows-of-requires
     array-copy-out-image
     inside-requires
     grant-requires
-    returns
+    returns-2
     array-copy-out-data
     inside-requires-2
     entry-of-requires
     grant-requires-2
-    returns-2
+    returns-3
     array-copy-out-supers
     inside-requires-3
     entry-of-requires-2
     grant-requires-3
-    returns-3
+    returns-4
     array-copy-out-device
     inside-requires-4
     grant-requires-4
-    returns-4
-    returns-5)
+    returns-5
+    returns-6)
