@@ -1,2 +1,4 @@
 pub mod Examples
+pub mod Faults
 pub mod Rows
+pub mod WithinRows

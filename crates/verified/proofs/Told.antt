@@ -24,7 +24,7 @@ use Rattle.refusal.proofs.None.{only}
 use Rattle.refusal.specs.Table.{Row, given}
 use Rattle.verify_rows.specs.Word.{sameTable, sameLeaf, sameBlock, row18, row19, leafRow, blockRow}
 
-halves : (a b : Bool) → (a && b) ≡ true → (a ≡ true) × (b ≡ true)
+pub halves : (a b : Bool) → (a && b) ≡ true → (a ≡ true) × (b ≡ true)
 halves true b e = (refl, e)
 halves false b e = absurd (let z : _≡_ {A = ℕ} 0 1 = cc in omega arith)
 

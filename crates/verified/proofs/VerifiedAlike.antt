@@ -28,7 +28,7 @@ use Rattle.verify_rows.specs.Verifying.{word, indices, live, liveOf, liveRow, w
 use Rattle.verify_rows.specs.Word.{row18, row19}
 use Rattle.verified.specs.Verified.{Kept, VerifiedAlike}
 use Rattle.verify_rows.proofs.Read.{held-page, held-block}
-use Rattle.verified.proofs.Told.{leaf-row-told, block-row-told, row18-told, row19-told, other-told}
+use Rattle.verified.proofs.Told.{halves, leaf-row-told, block-row-told, row18-told, row19-told, other-told}
 use Rattle.verified.proofs.Words.{l1-none, l1-data, l1-super, l1-image, l1-device, page-wanted, super-wanted, device-wanted}
 
 -- a word that is wanted, and one that is not
@@ -67,10 +67,6 @@ module _ (arena base sup : List ℕ) (l : Layout) (g : Guarded outputLimit base 
       go (eqb (slot (dataWindow l)) j) (eqb (slot (superWindow l)) j) (image .present && eqb (slot image) j)
       (deviceWindow l .present && eqb (slot (deviceWindow l)) j) refl refl refl refl (first .0) (second .0) (third .0) (fourth .0) rest
     where
-      halves : (a b : Bool) → (a && b) ≡ true → (a ≡ true) × (b ≡ true)
-      halves true b e = (refl, e)
-      halves false b e = absurd (let z : _≡_ {A = ℕ} 0 1 = cc in omega arith)
-
       go :
           (a b c d : Bool) →
           eqb (slot (dataWindow l)) j ≡ a →
