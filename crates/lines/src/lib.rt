@@ -2,6 +2,8 @@
 use libc::STDIN_FILENO;
 use libc::STDOUT_FILENO;
 ghost use Prim.Native.Nat.{_<_};
+ghost use mathlib.Core.Path.{_≡_};
+ghost use Rattle.lines.specs.Bytes.{bytesOf};
 
 pub enum Read {
     Number(u64),
@@ -14,6 +16,17 @@ pub fn read_number() -> Read {
         return Read::End;
     }
     Read::Number(number(&text))
+}
+
+// Whether all were there.
+pub fn read_numbers(x: &mut [u64]) -> bool {
+    for i in 0..x.len() {
+        let Read::Number(n) = read_number() else {
+            return false;
+        };
+        x[i] = n;
+    }
+    true
 }
 
 fn number(text: &[u8; 17]) -> u64 {
@@ -60,4 +73,20 @@ fn print_number(n: u64, last: bool) -> bool {
         return io::write_all(STDOUT_FILENO, b"\n");
     }
     io::write_all(STDOUT_FILENO, b" ")
+}
+
+// The bytes of a number, the lowest first.
+pub fn bytes(n: u64) -> [u8; 8]
+    ensures { λ r. ⌜ r ≡ bytesOf 8 n ⌝ }
+{
+    [
+        (n % 0x100) as u8,
+        (n / 0x100 % 0x100) as u8,
+        (n / 0x1_0000 % 0x100) as u8,
+        (n / 0x100_0000 % 0x100) as u8,
+        (n / 0x1_0000_0000 % 0x100) as u8,
+        (n / 0x100_0000_0000 % 0x100) as u8,
+        (n / 0x1_0000_0000_0000 % 0x100) as u8,
+        (n / 0x100_0000_0000_0000 % 0x100) as u8,
+    ]
 }

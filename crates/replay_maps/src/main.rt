@@ -35,8 +35,8 @@ fn replay_line() -> bool {
 }
 
 fn fill(x: &[u64; NUMBERS]) -> bool {
-    let mut base = bytes(x[3]);
-    let mut sup = bytes(x[4]);
+    let mut base = lines::bytes(x[3]);
+    let mut sup = lines::bytes(x[4]);
     let edges = edges(x);
     let frames = frames(x);
     let dom = (x[1] % 65536) as u16;
@@ -45,7 +45,7 @@ fn fill(x: &[u64; NUMBERS]) -> bool {
 }
 
 fn authorized(x: &[u64; NUMBERS]) -> bool {
-    let leaves = bytes(x[3]);
+    let leaves = lines::bytes(x[3]);
     let frames = frames(x);
     let grants = [grant(x[14]), grant(x[15])];
     let dom = (x[1] % 65536) as u16;
@@ -54,7 +54,7 @@ fn authorized(x: &[u64; NUMBERS]) -> bool {
 }
 
 fn exact(x: &[u64; NUMBERS]) -> bool {
-    let leaves = bytes(x[3]);
+    let leaves = lines::bytes(x[3]);
     let edges = edges(x);
     let frames = frames(x);
     let dom = (x[1] % 65536) as u16;
@@ -101,20 +101,6 @@ fn grant(n: u64) -> [u32; 4] {
         (n / 0x10_0000 % 0x10_0000) as u32,
         (n / 0x100_0000_0000 % 0x1_0000) as u32,
         (n / 0x100_0000_0000_0000) as u32,
-    ]
-}
-
-// The first entry lowest.
-fn bytes(n: u64) -> [u8; 8] {
-    [
-        (n % 0x100) as u8,
-        (n / 0x100 % 0x100) as u8,
-        (n / 0x1_0000 % 0x100) as u8,
-        (n / 0x100_0000 % 0x100) as u8,
-        (n / 0x1_0000_0000 % 0x100) as u8,
-        (n / 0x100_0000_0000 % 0x100) as u8,
-        (n / 0x1_0000_0000_0000 % 0x100) as u8,
-        (n / 0x100_0000_0000_0000) as u8,
     ]
 }
 

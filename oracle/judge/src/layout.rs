@@ -11,7 +11,7 @@ use crate::function::{answers, Answer, Function, Input, Layer};
 use crate::handed_layouts;
 use crate::inputs::{hex, words, Outcome};
 use crate::layout_faults::FAULTS;
-use crate::layout_inputs::{examples, layouts};
+use crate::layout_inputs::{examples, layouts, within_rows};
 use crate::port_layouts;
 use crate::undefined::defined;
 
@@ -55,7 +55,7 @@ pub const LAYER: Layer<Fields> = Layer {
         name: "validate",
         op: (),
         original: validate,
-        boundary: || Box::new(examples()),
+        boundary: || Box::new(examples().chain(within_rows())),
         sweep: |round| Box::new(layouts(round)),
         answers: ANSWERS,
         least: LEAST,

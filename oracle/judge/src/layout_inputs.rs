@@ -87,19 +87,66 @@ const TOLD: [(u64, Changes); 14] = [
     (10, &[(SUP_PA, OUTPUT_LIMIT - BLOCK)]),
 ];
 
+/// Two neighbours of one row fail, in S with an image: the first words of the answer, which are the
+/// first's. An image or a device that row 10 would refuse is refused by row 9.
+const WITHIN: [(&[u64], Changes); 19] = [
+    (&[6, 1], &[(DATA_IPA, 0x8000_1000), (DATA_PA, 0x5000_0800)]),
+    (&[6, 2], &[(DATA_PA, 0x5000_0800), (SUP_IPA, 0xc000_1000)]),
+    (&[6, 3], &[(SUP_IPA, 0xc000_1000), (SUP_PA, 0x6000_1000)]),
+    (&[6, 4], &[(SUP_PA, 0x6000_1000), (IMAGE, 0x4020_1000)]),
+    (&[6, 5], &[(IMAGE, 0x4020_1000), (DEVICE, 0x900_1000)]),
+    (&[7, 1], &[(L1, 0x4000_0001), (L2_CODE, OUTPUT_LIMIT)]),
+    (&[7, 2], &[(L2_CODE, OUTPUT_LIMIT), (L2_DATA, 0x4000_2800)]),
+    (&[7, 3], &[(L2_DATA, 0x4000_2800), (L3_DATA, OUTPUT_LIMIT)]),
+    (&[7, 4], &[(L3_DATA, OUTPUT_LIMIT), (L2_SUP, 0x4000_4002)]),
+    (&[7, 5], &[(L2_SUP, 0x4000_4002), (L2_DEV, OUTPUT_LIMIT)]),
+    (
+        &[9, 0],
+        &[(IMAGE, INPUT_LIMIT), (DATA_IPA, INPUT_LIMIT + L1_SPAN)],
+    ),
+    (
+        &[9, 1],
+        &[(DATA_IPA, INPUT_LIMIT + L1_SPAN), (SUP_FRAMES, 513)],
+    ),
+    (
+        &[9, 3],
+        &[(SUP_FRAMES, 513), (DEVICE, INPUT_LIMIT + 2 * L1_SPAN)],
+    ),
+    (&[10, 2], &[(DATA_PA, OUTPUT_LIMIT), (SUP_PA, OUTPUT_LIMIT)]),
+    // Pair by pair: image with data, with super, with device, data with super, with device, super
+    // with device.
+    (&[12], &[(IMAGE, 0x5000_0000), (SUP_IPA, 0x4040_0000)]),
+    (&[12], &[(IMAGE, 0x6000_0000), (DEVICE, 0x4040_0000)]),
+    (&[11, 1], &[(DEVICE, 0x4040_0000), (SUP_IPA, 0x8020_0000)]),
+    (&[12], &[(SUP_PA, 0x5000_0000), (DEVICE, 0x8040_0000)]),
+    (&[12], &[(DATA_PA, 0x900_0000), (SUP_IPA, 0x20_0000)]),
+];
+
 pub fn examples() -> impl Iterator<Item = Fields> {
-    EXAMPLES.into_iter().chain(TOLD).map(|(row, changes)| {
-        let mut x = SCENE;
-        for (field, value) in changes {
-            x[*field] = *value;
-        }
-        assert_eq!(
-            validate(&x)[0],
-            row,
-            "document 01 gives the row of {changes:x?}"
-        );
-        x
-    })
+    let list = EXAMPLES.into_iter().chain(TOLD);
+    list.map(|(row, changes)| example(SCENE, &[row], changes))
+}
+
+/// Layouts that fail two checks of one row.
+pub fn within_rows() -> impl Iterator<Item = Fields> {
+    let image = altered(SCENE, |x| {
+        (x[IMAGE_PRESENT], x[IMAGE]) = (1, 0x4020_0000);
+    });
+    let list = WITHIN.into_iter();
+    list.map(move |(answer, changes)| example(image, answer, changes))
+}
+
+/// The changed layout. It fails if the answer is another.
+fn example(mut x: Fields, answer: &[u64], changes: Changes) -> Fields {
+    for (field, value) in changes {
+        x[*field] = *value;
+    }
+    assert_eq!(
+        validate(&x)[..answer.len()],
+        *answer,
+        "document 01 gives the answer to {changes:x?}"
+    );
+    x
 }
 
 /// Layouts near scene S, with an image and without one, and random ones.
@@ -117,7 +164,8 @@ pub fn layouts(round: Round) -> impl Iterator<Item = Fields> {
 /// How many random layouts of each answer are recorded.
 const SAMPLE: u64 = 20;
 
-/// Layouts to record: the examples, and the first few random ones of each answer.
+/// Layouts to record: the examples, those that fail twice, and the first few random ones of each
+/// answer.
 pub fn recorded() -> impl Iterator<Item = Fields> {
     let mut left = [SAMPLE; 13];
     let wanted = move |x: &Fields| {
@@ -126,7 +174,8 @@ pub fn recorded() -> impl Iterator<Item = Fields> {
         *left = left.saturating_sub(1);
         wanted
     };
-    examples().chain(random(Random(16), 20_000, moved).filter(wanted))
+    let few = random(Random(16), 20_000, moved).filter(wanted);
+    examples().chain(within_rows()).chain(few)
 }
 
 /// The layout with any two of its fields moved to an edge.

@@ -8,6 +8,7 @@ use crate::function::{functions, Function, Input, LAYOUTS, WORDS};
 use crate::inputs::{Random, Words};
 use crate::layout_inputs;
 use crate::record_maps;
+use crate::record_tables;
 use crate::round::Round;
 use crate::tally::Tally;
 
@@ -19,6 +20,7 @@ struct Record {
     program: &'static str,
     stdin: String,
     stdout: String,
+    answers: usize,
 }
 
 pub fn write(folder: &str) -> Result<(), String> {
@@ -28,7 +30,7 @@ pub fn write(folder: &str) -> Result<(), String> {
             .and_then(|()| fs::write(folder.join("stdin"), &record.stdin))
             .and_then(|()| fs::write(folder.join("stdout"), &record.stdout))
             .map_err(|error| format!("{}: {error}", folder.display()))?;
-        println!("{}: {} answers recorded", record.program, record.len());
+        println!("{}: {} answers recorded", record.program, record.answers);
     }
     Ok(())
 }
@@ -43,7 +45,7 @@ pub fn check(folder: &str) -> Result<(), String> {
                 return Err(format!("{} is not what the original gives", file.display()));
             }
         }
-        let (program, count) = (record.program, record.len());
+        let (program, count) = (record.program, record.answers);
         println!("{program}: {count} recorded answers are the original's");
     }
     // Those that carry edges, which the program lends as rows.
@@ -53,7 +55,7 @@ pub fn check(folder: &str) -> Result<(), String> {
 }
 
 /// One record for each program that replays answers.
-fn records() -> Result<[Record; 3], String> {
+fn records() -> Result<[Record; 4], String> {
     let mut replay = Record::new("replay");
     for function in functions(&WORDS).filter(|function| function.recorded) {
         let line = |input: &Words| format!("{:016x} {}", function.op, digits(input));
@@ -65,7 +67,10 @@ fn records() -> Result<[Record; 3], String> {
     }
     let mut maps = Record::new("replay_maps");
     (maps.stdin, maps.stdout) = record_maps::lines()?;
-    Ok([replay, layouts, maps])
+    maps.answers = maps.stdin.lines().count();
+    let mut tables = Record::new("replay_tables");
+    (tables.stdin, tables.stdout, tables.answers) = record_tables::lines()?;
+    Ok([replay, layouts, maps, tables])
 }
 
 impl Record {
@@ -74,6 +79,7 @@ impl Record {
             program,
             stdin: String::new(),
             stdout: String::new(),
+            answers: 0,
         }
     }
 
@@ -89,12 +95,9 @@ impl Record {
             tally.count(&answer);
             self.stdin += &format!("{}\n", line(&input));
             self.stdout += &format!("{}\n", digits(&answer));
+            self.answers += 1;
         }
         tally.complete(1)
-    }
-
-    fn len(&self) -> usize {
-        self.stdin.lines().count()
     }
 }
 

@@ -54,7 +54,7 @@ pub const LAYER: Layer<Walk> = Layer {
     wrapper_faults: handed_walks::WALK,
 };
 
-const ANSWERS: &[Answer] = &[
+pub const ANSWERS: &[Answer] = &[
     ("nothing", |answer| *answer == NOTHING),
     ("Ro", leaf::<1, 0>),
     ("Ro never", leaf::<1, 1>),
