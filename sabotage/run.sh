@@ -15,6 +15,7 @@ for crate in s2 probe; do
     $bin/clang --no-default-config -O2 -fPIC -c -x ir $out/$crate.ll -o $out/$crate.o
     $bin/llvm-ar rcs $out/lib$crate.a $out/$crate.o $out/fault.o
 done
+cp target/staticlib/libprobe_windows.a $out
 PROBE_DIR=$out CARGO_TARGET_DIR=$out/oracle cargo build --quiet --release --offline --manifest-path oracle/Cargo.toml -p judge
 
 # With no fault there is no difference.

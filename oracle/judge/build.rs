@@ -3,7 +3,7 @@
 use std::env;
 use std::path::PathBuf;
 
-const LIBRARIES: [&str; 2] = ["probe", "s2"];
+const LIBRARIES: [&str; 3] = ["probe", "probe_windows", "s2"];
 
 fn main() {
     println!("cargo::rerun-if-env-changed=PROBE_DIR");

@@ -164,16 +164,25 @@ pub fn tables(arena: &mut [Table; TABLES.end]) -> Tables<'_> {
 
 /// The row that refuses the scene.
 pub fn guard(scene: &Scene) -> Outcome {
-    rows_1_to_12(scene)
-        .or_else(|| row_13(&scene.fields))
-        .or_else(|| row_14(scene))
+    row_1(&scene.arena)
+        .or_else(|| rows_2_to_14(scene))
         .unwrap_or(ACCEPTED)
 }
 
 /// The rows that are tested before an arena is read, too.
 pub fn rows_1_to_12(scene: &Scene) -> Option<Outcome> {
-    row_1(&scene.arena)
-        .or_else(|| row_2(scene))
+    row_1(&scene.arena).or_else(|| rows_2_to_12(scene))
+}
+
+/// The rows that are tested where no arena is lent.
+pub fn rows_2_to_14(scene: &Scene) -> Option<Outcome> {
+    rows_2_to_12(scene)
+        .or_else(|| row_13(&scene.fields))
+        .or_else(|| row_14(scene))
+}
+
+fn rows_2_to_12(scene: &Scene) -> Option<Outcome> {
+    row_2(scene)
         .or_else(|| row_3(scene))
         .or_else(|| Some(layout::validate(&scene.fields)).filter(|answer| *answer != ACCEPTED))
 }

@@ -67,13 +67,24 @@ pub fn scenes(round: Round) -> impl Iterator<Item = Scene> {
 }
 
 pub fn any_scene(random: &mut Random) -> Scene {
-    let fields = match random.below(4) {
+    let fields = any_fields(random);
+    let len = arena_len(random);
+    let arena = old_words(random, len);
+    any_scene_over(random, fields, arena)
+}
+
+/// A layout that is accepted, or near one.
+pub fn any_fields(random: &mut Random) -> Fields {
+    match random.below(4) {
         0 => accepted(random),
         _ => moved(random),
-    };
-    let len = arena_len(random);
+    }
+}
+
+/// Any maps for the layout.
+pub fn any_scene_over(random: &mut Random, fields: Fields, arena: Vec<u64>) -> Scene {
     let mut scene = Scene {
-        arena: old_words(random, len),
+        arena,
         base: map(random),
         sup: map(random),
         fields,
@@ -161,8 +172,14 @@ pub fn accepted_scenes(round: Round) -> impl Iterator<Item = Scene> {
 }
 
 pub fn accepted_scene(random: &mut Random) -> Scene {
+    let arena = old_words(random, ARENA_LEN);
+    accepted_scene_over(random, arena)
+}
+
+/// A layout and maps that no row refuses.
+pub fn accepted_scene_over(random: &mut Random, arena: Vec<u64>) -> Scene {
     let mut scene = Scene {
-        arena: old_words(random, ARENA_LEN),
+        arena,
         base: accepted_map(random),
         sup: accepted_map(random),
         fields: accepted(random),

@@ -18,6 +18,7 @@ use crate::torn::{self, Torn};
 use crate::updates::{self, List};
 use crate::verify::{self, Arena};
 use crate::walk::{self, Walk};
+use crate::windows::{self, Windowed};
 use crate::{absent, desc, p2m, regime};
 
 /// What a function is asked.
@@ -151,6 +152,9 @@ pub static WALKS: [Layer<Walk>; 1] = [walk::LAYER];
 /// The same, where the tables are what a scene is encoded to.
 pub static ENCODINGS: [Layer<Encoding>; 1] = [reach::LAYER];
 
+/// The functions of an address and the windows that it may lie in.
+pub static WINDOWS: [Layer<Windowed>; 1] = [windows::LAYER];
+
 /// The functions that read a layout's arena.
 pub static ARENAS: [Layer<Arena>; 1] = [verify::LAYER];
 
@@ -187,8 +191,8 @@ macro_rules! for_all {
     ($layers:ident => $each:expr) => {
         $crate::function::for_all! {
             $layers => $each,
-            WORDS LAYOUTS SCENES STEPS UPDATES TORN WALKS ENCODINGS ARENAS EXPOSED FILLINGS GRANTED
-            LINKED TEXTS
+            WORDS LAYOUTS SCENES STEPS UPDATES TORN WALKS ENCODINGS WINDOWS ARENAS EXPOSED FILLINGS
+            GRANTED LINKED TEXTS
         }
     };
     ($layers:ident => $each:expr, $($all:ident)*) => {

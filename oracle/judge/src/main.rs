@@ -62,6 +62,7 @@ mod port_dump;
 mod port_layouts;
 mod port_maps;
 mod port_walk;
+mod port_windows;
 mod reach;
 mod reading_faults;
 mod record;
@@ -108,6 +109,9 @@ mod walk_addresses;
 mod walk_faults;
 mod walk_inputs;
 mod walk_word_faults;
+mod windows;
+mod windows_faults;
+mod windows_inputs;
 
 use std::env;
 use std::process::ExitCode;

@@ -67,7 +67,7 @@ pub const ANSWERS: &[Answer] = &[
 pub const REACHED: &[Answer] = ANSWERS.split_at(5).0;
 
 /// Whether an address is reached with this access, and never executed or not.
-fn leaf<const ACCESS: u64, const NEVER: u64>(answer: &[u64]) -> bool {
+pub fn leaf<const ACCESS: u64, const NEVER: u64>(answer: &[u64]) -> bool {
     answer[..2] == [0, 1] && answer[3..5] == [ACCESS, NEVER]
 }
 
