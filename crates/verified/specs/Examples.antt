@@ -31,7 +31,7 @@ pub record Examples (arena withImage : List ℕ) : Type 0 where
   pub row21 : verdict sceneS (stored 3 7 1 arena) ≡ refused (row 21 (3 ∷ 7 ∷ 1 ∷ []))
   pub row22 : verdict sceneS (stored 6 72 0 arena) ≡ refused (row 22 (72 ∷ 0 ∷ []))
 
--- of any arenas that verify
+-- of any arenas that verify, as what `encode` leaves from zeros does
 abbrev pub Tabled : Type 0
 Tabled =
     (arena withImage : List ℕ) →
