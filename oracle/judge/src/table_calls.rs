@@ -6,7 +6,7 @@ use crate::descriptors::ring;
 use crate::encode::{ARENA_LEN, TABLE_LEN};
 use crate::inputs::{altered, Outcome, Random};
 use crate::layout::{
-    pairs, BLOCK, DATA_IPA, DATA_PA, DEVICE_LEN, FRAME_SIZE, IMAGE, IMAGE_PRESENT, L1,
+    pairs, BLOCK, DATA_IPA, DATA_PA, DEVICE_LEN, FRAME_SIZE, IMAGE, IMAGE_PRESENT, L1, L2_DEV,
     OUTPUT_LIMIT, SUP_FRAMES, SUP_FRAMES_LIMIT, SUP_IPA, SUP_PA, TABLES,
 };
 use crate::layout_inputs::{accepted, within_rows, SCENE};
@@ -76,17 +76,19 @@ const ROWS: &[Change] = &[
     }),
 ];
 
-/// Rows that verification does not test.
+/// The same with the rows that verification does not test.
 const GUARD_ROWS: &[Change] = &[
     (&[12], |x| {
-        (x.fields[SUP_PA], x.fields[5]) = (0x5000_0000, x.fields[L1])
+        (x.fields[SUP_PA], x.fields[L2_DEV]) = (0x5000_0000, x.fields[L1])
     }),
-    (&[13, 1, 6], |x| (x.fields[5], x.sup[4]) = (x.fields[L1], 1)),
+    (&[13, 1, 6], |x| {
+        (x.fields[L2_DEV], x.sup[4]) = (x.fields[L1], 1)
+    }),
     (&[14, 4], |x| (x.sup[4], x.sup[5]) = (1, 2)),
 ];
 
-/// Every call that tests it is refused by the row, over old words, and three times: with the next
-/// row too, and twice with fields that fail twice in one row.
+/// Each row with the next one, then layouts that fail twice in one row: by every call that tests
+/// them, over old words.
 fn refused(script: &mut Script) {
     script.fill(0, ARENA_LEN, u64::MAX);
     for (answer, change) in ROWS {
