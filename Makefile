@@ -103,5 +103,5 @@ sabotage: libraries
 
 libraries:
 	@mkdir -p target
-	@{ rt check s2dump && rt staticlib probe_windows && tools/module.sh probe && tools/module.sh s2; } \
+	@{ rt check s2dump && rt staticlib probe_windows && tools/module.sh probe && tools/module.sh s2 && tools/module.sh judge_translation; } \
 	    >target/libraries.log 2>&1 || { cat target/libraries.log; exit 1; }

@@ -1,6 +1,6 @@
 #include "addresses.h"
+#include "descent.h"
 #include "host.h"
-#include "manual.h"
 #include "random.h"
 #include "runs.h"
 
@@ -26,19 +26,20 @@ static bool decides(unsigned bit, unsigned level)
 }
 
 /* Every deciding bit of the word that maps the address, one after the other; the walk is asked over the words as they were. */
-static void flip(uint64_t arena, const struct scene *s, unsigned bits, uint64_t address)
+static void flip(uint64_t arena, const struct scene *s, uint64_t address)
 {
-    struct translated t = translation(arena, bits, address);
+    struct places read = places_of(arena, address);
+    struct end end = end_of(arena, &read);
     struct verdict walk = walked((const uint64_t *)arena, &s->layout, address);
     places++;
     for (unsigned bit = 0; bit < 64; bit++) {
-        if (!decides(bit, t.level))
+        if (!decides(bit, end.level))
             continue;
-        *t.place ^= 1ull << bit;
+        *end.place ^= 1ull << bit;
         invalidate();
         flips++;
         caught += !agrees(address, walk);
-        *t.place ^= 1ull << bit;
+        *end.place ^= 1ull << bit;
     }
     invalidate();
     if (!agrees(address, walk))
@@ -60,7 +61,7 @@ bool run_flipped(uint64_t scenes)
         for (size_t i = 0; i < list.count; i++) {
             struct verdict grant = granted(&scene, list.at[i]);
             if (grant.reads && in_scratch(grant.pa) && one_in(8))
-                flip(arena, &scene, bits, list.at[i]);
+                flip(arena, &scene, list.at[i]);
         }
     }
     print("flipped: ");

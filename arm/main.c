@@ -33,6 +33,14 @@ void differ(const char *what, uint64_t address, struct verdict expected)
     print_difference(address, expected);
 }
 
+void differ_in(const char *what, enum access access, uint64_t address, struct translated expected)
+{
+    if (differences++ >= SHOWN)
+        return;
+    print(what);
+    print_access_difference(access, address, expected);
+}
+
 bool run_words(uint64_t scenes)
 {
     print_hex(digest_of_words(scenes));

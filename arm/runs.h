@@ -11,7 +11,7 @@
 /* Over what the port encodes and updates, cut anywhere: the walk, the machine and the grants agree. */
 bool run_emitted(uint64_t scenes);
 
-/* Over any words: the machine translates by the manual, and the walk differs from it where docs/DIFFERENCES.md says so. */
+/* Over any words: the machine translates as the definition says, and the walk differs from it where docs/DIFFERENCES.md says so. */
 bool run_wild(uint64_t scenes);
 
 /* One bit flipped in an encoded leaf: the comparison notices. */
@@ -28,6 +28,7 @@ bool all_seen(const uint64_t counts[], size_t count);
 
 /* Notes a difference, of which the first few are printed. */
 void differ(const char *what, uint64_t address, struct verdict expected);
+void differ_in(const char *what, enum access access, uint64_t address, struct translated expected);
 extern uint64_t differences;
 
 #endif

@@ -25,7 +25,7 @@ static uint64_t draw_output(uint64_t align, uint64_t span, unsigned bits)
         return (end - span) & -align;
     if (one_in(4))
         return below((end - span) / align) * align;
-    return SCRATCH_FIRST + below((SCRATCH_END - SCRATCH_FIRST - span) / align) * align;
+    return SCRATCH_FIRST + below((MEMORY_END - SCRATCH_FIRST - span) / align) * align;
 }
 
 static uint64_t draw_input(uint64_t blocks)

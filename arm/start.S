@@ -1,4 +1,4 @@
-// Entry at EL2, the exception vectors, and one fetch at EL1.
+// Entry at EL2, the exception vectors, and one fetch at EL0 or EL1.
 
     .section .start, "ax"
     .global start
@@ -11,8 +11,8 @@ start:
     bl      main
 1:  b       1b
 
-// uint64_t fetch_at(uint64_t address, uint64_t *elr)
-// Runs EL1 at the address until an exception comes back. Returns ESR_EL2, and ELR_EL2 through the pointer.
+// uint64_t fetch_at(uint64_t address, uint64_t spsr, uint64_t *elr)
+// Runs EL0 or EL1, as SPSR_EL2 says, at the address until an exception comes back. Returns ESR_EL2, and ELR_EL2 through the pointer.
     .text
     .global fetch_at
 fetch_at:
@@ -22,13 +22,12 @@ fetch_at:
     stp     x23, x24, [sp, #48]
     stp     x25, x26, [sp, #64]
     stp     x27, x28, [sp, #80]
-    str     x1, [sp, #96]
+    str     x2, [sp, #96]
     msr     elr_el2, x0
-    mov     x0, #0x3c5              // EL1h, every interrupt masked
-    msr     spsr_el2, x0
+    msr     spsr_el2, x1
     eret
 
-// An exception from EL1: the stack is as fetch_at left it.
+// An exception from EL0 or EL1: the stack is as fetch_at left it.
 fetched:
     ldr     x1, [sp, #96]
     mrs     x2, elr_el2
@@ -56,7 +55,7 @@ vectors:
     b       unexpected
     .endr
     .balign 128
-    b       fetched                 // from EL1, synchronous
+    b       fetched                 // from EL0 or EL1, synchronous
     .rept   7
     .balign 128
     b       unexpected
