@@ -1,8 +1,10 @@
 -- `level3` meets its contract: a page, or none.
-use mathlib.Core.Path.{_∙_, sym}
+use Prim.Native.Nat.{ℕ}
+use mathlib.Core.Path.{_∙_, sym, ap}
 use borrow.Author.Needs.{needs}
 use Rattle.decode.proofs.Fields.{has-type, not-type}
-use Rattle.manual.specs.Translation.{level3}
+use Rattle.manual.specs.Translation.{leaf, level3}
+use Rattle.judge_translation.specs.Answer.{accessNumbered}
 use Rattle.judge_translation.proofs.Outputs.{page-output}
 use Rattle.judge_translation.proofs.level3.Statement.{statement}
 use Rattle.judge_translation.proofs.level3.Tie as tie
@@ -29,8 +31,10 @@ returns-2 c =
     let e = c .before in
     let v = e .before in
     let d = v .lookup .result in
-    let x = v .before .before .before .args .ipa in
-    c .leaf .ensures ∙ rw (page-output d x, sym (v .lookup .ensures), has-type d 3 (e .if1 .left))
+    let a = v .before .before .before .args in
+    c .leaf .ensures
+    ∙ ap (λ (output : ℕ). leaf (a .xnx) (accessNumbered (a .access)) output d) (page-output d (a .ipa))
+    ∙ rw (sym (v .lookup .ensures), has-type d 3 (e .if1 .left))
 
 pub level3-spec : {M : Type 1} → statement M
 level3-spec = tie.close (tie.spec lookup-requires returns mul-first add-leaf leaf-requires returns-2)
