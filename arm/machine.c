@@ -104,7 +104,7 @@ static bool par_agrees(uint64_t par, struct translated expected)
     return expected.reached ? !(par & PAR_F) && (par & PAR_PA) == (expected.pa & PAR_PA) : par & PAR_F;
 }
 
-/* An instruction that returns to EL2 with the number of its page. */
+/* An instruction that returns to EL2 with the low bits of its page's number. */
 static uint32_t brk(uint64_t pa)
 {
     return 0xD4200000 | (uint32_t)(pa >> 12 & 0xFFFF) << 5;
