@@ -1,8 +1,8 @@
 -- `lookup` meets its contract: the word is that of the tables from t on.
-use Prim.Native.Nat.{_*_, _+_, _-_, _<_}
+use Prim.Native.Nat.{_*_, _+_, _-_}
 use mathlib.Core.Path.{_≡_, _∙_, refl, sym}
 use native.Mathlib.Omega.{arith}
-use lib.ListN.{drop, length}
+use lib.ListN.{drop}
 use borrow.Author.Needs.{needs}
 use borrow.Author.Tests.{eq-eqb, ne-eqb}
 use denote.Ref.{now}
