@@ -3,35 +3,45 @@
 #include "machine.h"
 #include "scene.h"
 
-struct places places_of(uint64_t l1_pa, uint64_t address)
-{
-    struct places p = {.count = 0};
-    uint64_t named = l1_pa, span = L1_SPAN;
-    while (p.count < LEVELS && in_memory(named)) {
-        uint64_t index = address / span % TABLE_LEN, word = ((const uint64_t *)named)[index];
-        uint64_t *place = p.at[p.count++];
-        place[0] = named;
-        place[1] = index;
-        place[2] = word;
-        named = word & ADDRESS;
-        span /= TABLE_LEN;
-    }
-    return p;
-}
+#define LEADS_ON (VALID | TABLE_OR_PAGE)
 
 static bool in_arena(uint64_t arena, uint64_t named)
 {
     return named - arena < TABLES * PAGE;
 }
 
-struct end end_of(uint64_t arena, const struct places *p)
+/* The nine index bits of a level. */
+static uint64_t index_of(unsigned level, uint64_t address)
+{
+    return address / (PAGE << 9 * (LEVELS - level)) % TABLE_LEN;
+}
+
+struct places places_of(uint64_t arena, uint64_t address)
+{
+    struct places p = {.count = 0};
+    uint64_t named = arena;
+    for (unsigned level = 1; level <= LEVELS && in_memory(named); level++) {
+        uint64_t index = index_of(level, address), word = ((const uint64_t *)named)[index];
+        if (!in_arena(arena, named)) {
+            uint64_t *place = p.at[p.count++];
+            place[0] = named;
+            place[1] = index;
+            place[2] = word;
+        }
+        named = word & ADDRESS;
+    }
+    return p;
+}
+
+struct end end_of(uint64_t arena, uint64_t address)
 {
     struct end end = {.level = 1};
+    uint64_t named = arena;
     for (;; end.level++) {
-        const uint64_t *place = p->at[end.level - 1], type = place[2] & (VALID | TABLE_OR_PAGE);
-        end.place = (uint64_t *)place[0] + place[1];
-        end.outside |= !in_arena(arena, place[0]);
-        if (type != (VALID | TABLE_OR_PAGE) || end.level == p->count)
+        end.place = (uint64_t *)named + index_of(end.level, address);
+        end.outside |= !in_arena(arena, named);
+        named = *end.place & ADDRESS;
+        if ((*end.place & LEADS_ON) != LEADS_ON || end.level == LEVELS || !in_memory(named))
             return end;
     }
 }

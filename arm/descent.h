@@ -1,5 +1,5 @@
-/* A descent through the tables in memory: the places that it can read, and where it ends. Nothing is judged by it: the places are handed to the
- * definition, and the end names the cause of a difference and the word that is flipped. */
+/* A descent through the tables in memory: the places outside the arena that it can read, and where it ends. Nothing is judged by it: the places are
+ * handed to the definition, and the end names the cause of a difference and the word that is flipped. */
 #ifndef DESCENT_H
 #define DESCENT_H
 
@@ -17,14 +17,14 @@
 
 #define LEVELS 3
 
-/* What stands at the place of each level, by the address fields alone, whatever the words' types: the table named, the index, the word. A place
- * outside the machine's memory ends the list. */
+/* What stands outside the arena at the place of each level, by the address fields alone, whatever the words' types: the table named, the index, the
+ * word. What is not in the machine's memory cannot be read, and ends the list. */
 struct places {
     uint64_t at[LEVELS][3];
     size_t count;
 };
 
-struct places places_of(uint64_t l1_pa, uint64_t address);
+struct places places_of(uint64_t arena, uint64_t address);
 
 /* The level and the place of the word that leads to no table, and whether a table on the way is not one of the arena's. */
 struct end {
@@ -33,6 +33,6 @@ struct end {
     bool outside;
 };
 
-struct end end_of(uint64_t arena, const struct places *places);
+struct end end_of(uint64_t arena, uint64_t address);
 
 #endif

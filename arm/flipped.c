@@ -28,8 +28,7 @@ static bool decides(unsigned bit, unsigned level)
 /* Every deciding bit of the word that maps the address, one after the other; the walk is asked over the words as they were. */
 static void flip(uint64_t arena, const struct scene *s, uint64_t address)
 {
-    struct places read = places_of(arena, address);
-    struct end end = end_of(arena, &read);
+    struct end end = end_of(arena, address);
     struct verdict walk = walked((const uint64_t *)arena, &s->layout, address);
     places++;
     for (unsigned bit = 0; bit < 64; bit++) {

@@ -95,7 +95,7 @@ static void compare(uint64_t arena, const struct layout *l, unsigned bits, uint6
 {
     struct verdict walk = walked((const uint64_t *)arena, l, x);
     struct places places = places_of(arena, x);
-    struct end end = end_of(arena, &places);
+    struct end end = end_of(arena, x);
     bool alike = true;
     for (enum access access = READS; access < ACCESSES; access++) {
         struct translated defined = by_definition(arena, l, &places, access, x), expected = under_the_regime(defined, bits);
@@ -114,10 +114,12 @@ static void compare(uint64_t arena, const struct layout *l, unsigned bits, uint6
     agreeing += alike;
 }
 
-/* Mostly one that has an entry in every table. */
+/* Mostly one of 39 bits; else one of any bits, or around the limit. */
 static uint64_t wild_address(void)
 {
-    return one_in(16) ? any_number() >> below(26) : below(INPUT_LIMIT);
+    if (!one_in(16))
+        return below(INPUT_LIMIT);
+    return one_in(2) ? any_number() >> below(26) : INPUT_LIMIT - 2 + below(4);
 }
 
 static void report(uint64_t scenes)
