@@ -12,10 +12,11 @@
 #define EC_FETCH_ABORT 0x20
 #define EC_BRK 0x3C
 #define MDCR_TDE (1ull << 8)
+#define MDSCR_SS (1ull << 0)
 
-/* Every interrupt masked. */
-#define SPSR_EL0 0x3C0
-#define SPSR_EL1 0x3C5
+/* Every interrupt masked, and one step: whatever is fetched, it is one instruction. */
+#define SPSR_EL0 0x2003C0
+#define SPSR_EL1 0x2003C5
 
 /* No stage 2 translation of 39 bits has this address: an exception that EL1 takes comes back as an abort. */
 #define NO_VECTORS (1ull << 39)
@@ -72,7 +73,9 @@ void run_under(uint64_t l1_pa, unsigned bits)
     WRITE(vtcr_el2, bits == BALEEN_OUTPUT_BITS ? BALEEN_VTCR_EL2 : whole);
     WRITE(vttbr_el2, l1_pa | 1ull << 48);
     WRITE(hcr_el2, HCR_RW | HCR_VM);
-    WRITE(mdcr_el2, MDCR_TDE); /* a BRK of EL0 or EL1 comes to EL2 */
+    WRITE(mdcr_el2, MDCR_TDE); /* a BRK of EL0 or EL1 comes to EL2, and so does a step */
+    WRITE(mdscr_el1, MDSCR_SS);
+    WRITE(oslar_el1, 0);
     WRITE(sctlr_el1, 0x30D00800); /* stage 1 off: an address of EL1 is an input of stage 2 */
     WRITE(tcr_el1, 0);
     WRITE(vbar_el1, NO_VECTORS);
