@@ -84,7 +84,7 @@ fn level1(
     requires { ⌜ length (now tables) ≡ tableCount ⌝ }
     ensures { λ r. ⌜ translatedOf r ≡ level1 (machineOf xnx (now (places .entry))) (now (tables .entry)) (λ left. wordsOf (now (arena .entry))) (accessNumbered access) ipa named ⌝ }
 {
-    let index = (ipa / Layout::L1_ENTRY_SIZE % 512) as usize;
+    let index = (ipa / Layout::L1_ENTRY_SIZE % Layout::INDICES) as usize;
     let d = lookup(arena, tables, places, named, index);
     if d % 4 == desc::TABLE {
         let next = d % Layout::OUTPUT_LIMIT / Layout::PAGE_SIZE * Layout::PAGE_SIZE;
@@ -109,7 +109,7 @@ fn level2(
     requires { ⌜ length (now tables) ≡ tableCount ⌝ }
     ensures { λ r. ⌜ translatedOf r ≡ level2 (machineOf xnx (now (places .entry))) (now (tables .entry)) (λ left. wordsOf (now (arena .entry))) (accessNumbered access) ipa named ⌝ }
 {
-    let index = (ipa / Layout::BLOCK_SIZE % 512) as usize;
+    let index = (ipa / Layout::BLOCK_SIZE % Layout::INDICES) as usize;
     let d = lookup(arena, tables, places, named, index);
     if d % 4 == desc::TABLE {
         let next = d % Layout::OUTPUT_LIMIT / Layout::PAGE_SIZE * Layout::PAGE_SIZE;
@@ -134,7 +134,7 @@ fn level3(
     requires { ⌜ length (now tables) ≡ tableCount ⌝ }
     ensures { λ r. ⌜ translatedOf r ≡ level3 (machineOf xnx (now (places .entry))) (now (tables .entry)) (λ left. wordsOf (now (arena .entry))) (accessNumbered access) ipa named ⌝ }
 {
-    let index = (ipa / Layout::PAGE_SIZE % 512) as usize;
+    let index = (ipa / Layout::PAGE_SIZE % Layout::INDICES) as usize;
     let d = lookup(arena, tables, places, named, index);
     if d % 4 != desc::PAGE {
         return Translated::Fault;
