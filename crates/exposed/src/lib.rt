@@ -97,15 +97,3 @@ impl Exposure {
         }
     }
 }
-
-impl Exposed {
-    // The number, 0 where it is told, and the values.
-    pub fn words(self) -> [u64; 9]
-        ensures { λ r. ⌜ r ≡ toldWords exposureValues (exposureOf self) ⌝ }
-    {
-        match self {
-            Exposed::Told(exposure) => exposure.words(),
-            Exposed::Refused(refusal) => refusal.words(),
-        }
-    }
-}

@@ -1,8 +1,10 @@
 // The calls of board code: numbers and slices in, document 01's number and the carried values out. A layout is its sixteen fields in
 // number order, with whether there is an image just before the image. A call returns 0 where it accepts.
 use edge::Edge;
+use exposed::Exposed;
 use layout::Layout;
 use p2m::Span;
+use reach::Walked;
 use refusal::Verdict;
 ghost use Prim.Native.Nat.{_<_, _^_};
 ghost use mathlib.Core.List.{[], _∷_};
@@ -222,7 +224,10 @@ pub extern "C" fn s2_walk(
         l2_sup_pa,
         l2_dev_pa,
     ];
-    told(walker::walk(arena, tables, ipa).words(), values)
+    match walker::walk(arena, tables, ipa) {
+        Walked::Told(reached) => told(reached.words(), values),
+        Walked::Refused(refusal) => answer(Verdict::Refused(refusal), values),
+    }
 }
 
 // Rows 1 to 12 and 18 to 22.
@@ -320,7 +325,10 @@ pub extern "C" fn s2_exposed(
         sup_wx_exempt,
         sup_frames,
     ];
-    told(exposed::exposed_table(Layout::of(&numbers)).words(), values)
+    match exposed::exposed_table(Layout::of(&numbers)) {
+        Exposed::Told(exposure) => told(exposure.words(), values),
+        Exposed::Refused(refusal) => answer(Verdict::Refused(refusal), values),
+    }
 }
 
 // Rows 2, 3, 23 and 24.
