@@ -93,15 +93,19 @@ module _ (frames : List (List ℕ)) (grants : List Grant) (dom m byte : ℕ) whe
     unfolding reachRows
     of-owner o e = rw (mapped, e)
 
-    pub own-frame : owns frames dom m ≡ true → first (reachRows frames grants dom m byte) ≡ accepted
-    unfolding owns
-    own-frame t = go (ownerOf frames m) refl t
-      where
-        go :
-            (o : Owner) →
-            ownerOf frames m ≡ o → ownedBy dom o ≡ true → first (reachRows frames grants dom m byte) ≡ accepted
-        go (Domain o) e t = ap first (of-owner (Domain o) e) ∙ own grants dom m p o t
-        go Nobody e t = absurd (false≢true t)
+  pub own-frame : owns frames dom m ≡ true → first (reachRows frames grants dom m byte) ≡ accepted
+  unfolding owns
+  own-frame t = by-entry (entryNamed byte) refl
+    where
+      by-owner :
+          (p : Perm) (o : Owner) → entryNamed byte ≡ Mapped p → ownerOf frames m ≡ o → ownedBy dom o ≡ true →
+          first (reachRows frames grants dom m byte) ≡ accepted
+      by-owner p (Domain o) mapped e t = ap first (of-owner p mapped (Domain o) e) ∙ own grants dom m p o t
+      by-owner p Nobody mapped e t = absurd (false≢true t)
+
+      by-entry : (e : Entry) → entryNamed byte ≡ e → first (reachRows frames grants dom m byte) ≡ accepted
+      by-entry (Mapped p) e = by-owner p (ownerOf frames m) e refl t
+      by-entry Unmapped e = accept _ (unmapped e)
 
 pub foreign-frame :
     (frames : List (List ℕ)) (dom m o : ℕ) →

@@ -20,17 +20,21 @@ use Rattle.authority.proofs.Owned.{unmapped, nobody, lent, denied, esca
 use Rattle.authority.proofs.reached.Statement.{statement}
 use Rattle.authority.proofs.reached.Tie as tie
 
--- past the first test the entry is mapped
-mapped : (c : tie.After-perm) → entryNamed (c .before .before .before .args .entry) ≡ Mapped (c .perm .given .0 .0)
+-- past the third test the entry is mapped
+
+abbrev start : tie.After-perm → tie.Start
+start c = c .before .before .before .before .before .before
+
+mapped : (c : tie.After-perm) → entryNamed (start c .args .entry) ≡ Mapped (c .perm .given .0 .0)
 mapped c = sym (c .before .before .of .ensures) ∙ c .perm .given .1
 
--- past the third the frame has an owner, who is another
+-- past the fourth the frame has an owner, who is another
 
 abbrev at-perm : tie.After-found → tie.After-perm
-at-perm c = c .before .before .before .before .before .before
+at-perm c = c .before .before .before .before
 
 abbrev at-start : tie.After-found → tie.Start
-at-start c = at-perm c .before .before .before
+at-start c = start (at-perm c)
 
 owner-found :
     (c : tie.After-found) →
@@ -46,8 +50,8 @@ owned c = ap first (of-owner _ _ _ _ _ _ (mapped (at-perm c)) _ (owner-found c))
 
 foreign : (c : tie.After-found) → eqb (c .found .given .0 .0) (at-start c .args .dom) ≡ false
 foreign c =
-    let else1 = c .before .before .before in
-    foreign-frame _ _ _ _ (sym (else1 .before .owns .ensures) ∙ else1 .if1 .left) (owner-found c)
+    let mine = at-perm c .before .before .before in
+    foreign-frame _ _ _ _ (sym (mine .before .owns .ensures) ∙ mine .if2 .left) (owner-found c)
 
 -- what is granted there
 abbrev grant : tie.After-found → Bool → Bool
@@ -60,6 +64,15 @@ asked :
     let o = v .before .before .before in grant o (permWrites (at-perm o .perm .given .0 .0)) ≡ v .granted .result
 asked v = sym (v .granted .ensures ∙ ap (grant (v .before .before .before)) (v .before .writable .ensures))
 
+returns : tie.Need-returns
+returns c = sym (accept _ (unmapped _ _ _ _ _ (ap entryNamed (c .if1 .taken))))
+
+owns-requires : tie.Need-owns-requires
+owns-requires c κs = search needs
+
+returns-2 : tie.Need-returns-2
+returns-2 c = sym (own-frame _ _ _ _ _ (sym (c .before .owns .ensures) ∙ c .if2 .taken))
+
 of-requires : tie.Need-of-requires
 of-requires c κs = search needs
 
@@ -69,18 +82,10 @@ enum-known-perm c = search needs
 enum-told : tie.Need-enum-told
 enum-told c = search needs
 
-returns : tie.Need-returns
-returns c =
+returns-3 : tie.Need-returns-3
+returns-3 c =
     let v = c .before .before in
     sym (accept _ (unmapped _ _ _ _ _ (sym (v .of .ensures) ∙ c .enum-told .given .1)))
-
-owns-requires : tie.Need-owns-requires
-owns-requires c κs = search needs
-
-returns-2 : tie.Need-returns-2
-returns-2 c =
-    let v = c .before in
-    sym (own-frame _ _ _ _ _ _ (mapped (v .before .before)) (sym (v .owns .ensures) ∙ c .if1 .taken))
 
 owner-of-requires : tie.Need-owner-of-requires
 owner-of-requires c κs = search needs
@@ -94,13 +99,13 @@ enum-told-2 c = search needs
 unauthorized-requires : tie.Need-unauthorized-requires
 unauthorized-requires c κs = search needs
 
-returns-3 : tie.Need-returns-3
-returns-3 c =
+returns-4 : tie.Need-returns-4
+returns-4 c =
     let told = c .before in
     let v = told .before .before in
     let nobody-owns = sym (v .owner-of .ensures) ∙ told .enum-told2 .given .1 in
-    let p = v .before .before .before .before in
-    let a = p .before .before .before .args in
+    let p = v .before .before in
+    let a = start p .args in
     c .unauthorized .ensures
     ∙ ap (λ (o : Owner). refused (rowOf (UnauthorizedMapping (a .dom) (a .mfn) o (p .perm .given .0 .0)))) (told .enum-told2 .given .1)
     ∙ sym (ap first (of-owner _ _ _ _ _ _ (mapped p) _ nobody-owns) ∙ nobody _ _ _ _)
@@ -111,10 +116,10 @@ writable-requires c κs = search needs
 granted-requires : tie.Need-granted-requires
 granted-requires c κs = search needs
 
-returns-4 : tie.Need-returns-4
-returns-4 c =
+returns-5 : tie.Need-returns-5
+returns-5 c =
     let v = c .before in
-    let o = v .before .before .before in sym (owned o ∙ lent _ _ _ _ _ (foreign o) (asked v ∙ c .if2 .taken))
+    let o = v .before .before .before in sym (owned o ∙ lent _ _ _ _ _ (foreign o) (asked v ∙ c .if3 .taken))
 
 granted-requires-2 : tie.Need-granted-requires-2
 granted-requires-2 c κs = search needs
@@ -122,8 +127,8 @@ granted-requires-2 c κs = search needs
 cast-t16 : tie.Need-cast-t16
 cast-t16 c = search needs
 
-returns-5 : tie.Need-returns-5
-returns-5 c =
+returns-6 : tie.Need-returns-6
+returns-6 c =
     let v = c .before in
     let w = v .before .before in
     let o = w .before .before .before in
@@ -131,40 +136,41 @@ returns-5 c =
     (owned o
     ∙ escalated _ _ _ _ _
     (foreign o)
-    (asked w ∙ v .before .if2 .left)
-    (sym (v .granted2 .ensures) ∙ c .if3 .taken))
+    (asked w ∙ v .before .if3 .left)
+    (sym (v .granted2 .ensures) ∙ c .if4 .taken))
 
 unauthorized-requires-2 : tie.Need-unauthorized-requires-2
 unauthorized-requires-2 c κs = search needs
 
-returns-6 : tie.Need-returns-6
-returns-6 c =
+returns-7 : tie.Need-returns-7
+returns-7 c =
     let d = c .before in
     let v = d .before in
     let o = v .before .before .before .before .before in
     c .unauthorized2 .ensures
-    ∙ sym (owned o ∙ denied _ _ _ _ _ (foreign o) (sym (v .granted2 .ensures) ∙ d .if3 .left))
+    ∙ sym (owned o ∙ denied _ _ _ _ _ (foreign o) (sym (v .granted2 .ensures) ∙ d .if4 .left))
 
 pub reached-spec : {M : Type 1} → statement M
 reached-spec =
     tie.close
     (tie.spec
-    of-requires
-    enum-known-perm
-    enum-told
     returns
     owns-requires
     returns-2
+    of-requires
+    enum-known-perm
+    enum-told
+    returns-3
     owner-of-requires
     enum-known-found
     enum-told-2
     unauthorized-requires
-    returns-3
+    returns-4
     writable-requires
     granted-requires
-    returns-4
+    returns-5
     granted-requires-2
     cast-t16
-    returns-5
+    returns-6
     unauthorized-requires-2
-    returns-6)
+    returns-7)
