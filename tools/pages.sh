@@ -17,11 +17,11 @@ grep -ohP '(?<![/.])\b(crates|oracle|arm|board|sabotage|tools|scenes|docs|includ
 believed() {
     awk -f tools/believed.awk "$@" | tail -1
 }
-calls=crates/s2/specs/Answers.antt demand2=crates/walks/specs/Demand2.antt demand3=crates/updates/specs/Demand3.antt
-for statement in $calls $demand2 $demand3; do
+calls=crates/s2/specs/Answers.antt demand2=crates/walks/specs/Demand2.antt demand3=crates/updates/specs/Demand3.antt dump=crates/dump/specs/Dump.antt
+for statement in $calls $demand2 $demand3 $dump; do
     says docs/TRUST.md "$(believed $statement)"
 done
-says docs/TRUST.md "$(believed $calls $demand2 $demand3)"
+says docs/TRUST.md "$(believed $calls $demand2 $demand3 $dump)"
 
 says docs/SABOTAGE.md "There are $(ls crates/*/must-fail/*.edit | wc -l), in $(ls -d crates/*/must-fail | wc -l) crates"
 
