@@ -22,11 +22,12 @@ run:
 	@rt check s2dump >target/run.log 2>&1 || { cat target/run.log; exit 1; }
 	@target/bin/s2dump <scenes/S.txt
 
-# rt ci begins by removing target/: run first, what it proved serves the rest. Its report comes last.
+# rt ci begins by removing target/: run first, what it proved serves the rest. Its report comes last. It waits for each batch of jobs to
+# end: with four on two cores, none idles while the longest of a batch goes on.
 test:
 	@rt fmt --check
 	@report=$$(mktemp) && trap 'rm -f $$report' EXIT && \
-	    { rt ci >$$report 2>&1 || { cat $$report; exit 1; }; } && \
+	    { RT_JOBS=$${RT_JOBS:-4} rt ci >$$report 2>&1 || { cat $$report; exit 1; }; } && \
 	    $(MAKE) --no-print-directory --jobs=2 --output-sync compare arm-short board scenes header pages && cat $$report
 
 fmt:

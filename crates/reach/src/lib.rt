@@ -3,7 +3,7 @@ use perm::Perm;
 use refusal::Refusal;
 ghost use mathlib.Core.Path.{_≡_};
 ghost use Rattle.perm.specs.Perm.{permWrites};
-ghost use Rattle.reach.specs.Reach.{reachValues};
+ghost use Rattle.reach.specs.Reach.{reachValues, toldOf};
 ghost use Rattle.refusal.specs.Told.{told, toldWords};
 
 // The output byte, the access, Ro or Rw, and whether it is execute never.
@@ -34,7 +34,7 @@ impl Reach {
 }
 
 impl Reached {
-    // 0, and the values: for callers that have no enums.
+    // 0, and the values.
     pub fn words(self) -> [u64; 9]
         ensures { λ r. ⌜ r ≡ toldWords reachValues (told self) ⌝ }
     {
@@ -46,6 +46,18 @@ impl Reached {
                 [0, 1, reach.pa, access, never, 0, 0, 0, 0]
             }
             Reached::Nothing => [0; 9],
+        }
+    }
+}
+
+impl Walked {
+    // The number, 0 where it is told, and the values: for callers that have no enums.
+    pub fn words(self) -> [u64; 9]
+        ensures { λ r. ⌜ r ≡ toldWords reachValues (toldOf self) ⌝ }
+    {
+        match self {
+            Walked::Told(reached) => reached.words(),
+            Walked::Refused(refusal) => refusal.words(),
         }
     }
 }
