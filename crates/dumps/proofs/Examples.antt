@@ -19,4 +19,20 @@ scene-S = refl
 
 pub examples : Examples
 unfolding dump printedOf inOrder lineAt wordLine badLine decimal refusedLine readFrom linesOf lineOf saidAfter said firstSpace numberOf digitOf withField layoutOf first flatMap eachFrom pairs row2 row3 row4 row5 row6 row7 row8 row9 row10 row13 row14 lengthRows mapRows pairRows windowRows refusalsAt guardRows encoded stored wordAt imageRuns dataRuns superRuns deviceRuns
-examples = record { empty = refl; two-digits = refl; later-line = refl; bad = refl; empty-line = refl }
+examples =
+    record {
+      empty = refl;
+      two-digits = refl;
+      later-line = refl;
+      bad = refl;
+      empty-line = refl;
+      last-position = refl;
+      position = refl;
+      super-position = refl;
+      code = refl;
+      exemption = refl;
+      sixteen-digits = refl;
+      seventeen-digits = refl;
+      lower-case = refl;
+      two-spaces = refl;
+    }

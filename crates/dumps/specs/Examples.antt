@@ -57,3 +57,14 @@ pub record Examples : Type 0 where
   -- 'A line outside this form prints BAD LINE and ends'
   pub bad : dump (bytes linesOfS ++ ascii "L 11 0\n") ≡ ascii "BAD LINE\n"
   pub empty-line : dump (ascii "\n" ++ bytes linesOfS) ≡ ascii "BAD LINE\n"
+  -- 'position at most 1FF, code at most 3', 'the exemption 0 or 1'
+  pub last-position : dump (bytes linesOfS ++ ascii "B 1FF 0\nU 1FF 0\nL F 0\n") ≡ bytes printedOfS
+  pub position : dump (ascii "B 200 2\n") ≡ ascii "BAD LINE\n"
+  pub super-position : dump (ascii "U 200 0\n") ≡ ascii "BAD LINE\n"
+  pub code : dump (ascii "B 0 4\n") ≡ ascii "BAD LINE\n"
+  pub exemption : dump (ascii "L F 2\n") ≡ ascii "BAD LINE\n"
+  -- 'Numbers are 1 to 16 digits, upper case, with one space between'
+  pub sixteen-digits : dump (bytes linesOfS ++ ascii "B 0000000000000001 2\n") ≡ bytes printedOfS
+  pub seventeen-digits : dump (ascii "B 00000000000000001 2\n") ≡ ascii "BAD LINE\n"
+  pub lower-case : dump (ascii "L a 1000\n") ≡ ascii "BAD LINE\n"
+  pub two-spaces : dump (ascii "L A  1000\n") ≡ ascii "BAD LINE\n"

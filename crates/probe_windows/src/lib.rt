@@ -1,4 +1,4 @@
-// `window_reach` for the comparison with the Rust, which alone links it: a layout's 17 numbers and two maps in, the nine numbers of the
+// `window_reach` for the comparison with the Rust, which alone links it: a layout's numbers and two maps in, the nine numbers of the
 // answer out.
 use layout::Layout;
 ghost use mathlib.Core.Path.{_≡_};
@@ -6,7 +6,7 @@ ghost use Rattle.probe_windows.specs.Answer.{grantedAnswer};
 
 #[no_mangle]
 pub extern "C" fn probe_windows(
-    numbers: &[u64; 17],
+    numbers: &[u64; Layout::NUMBERS],
     base: &[u8],
     sup: &[u8],
     ipa: u64,

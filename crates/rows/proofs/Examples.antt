@@ -25,6 +25,7 @@ examples =
       row12 = refl;
       row13 = refl;
       row14 = refl;
+      row8-edge = refl;
       frames512 = refl;
       last-output = refl;
       no-frames = refl;

@@ -82,6 +82,8 @@ pub record Examples : Type 0 where
   pub row12 : validated (line 0xC 0x5000_0000 sceneS) ≡ refused (row 12 [])
   pub row13 : guarded 3072 baseS supS (line 6 0x4000_0000 sceneS) ≡ refused (row 13 (1 ∷ 6 ∷ []))
   pub row14 : guarded 3072 baseS (0 ∷ 0 ∷ 3 ∷ 0 ∷ 1 ∷ []) sceneS ≡ refused (row 14 (4 ∷ []))
+  -- the most frames that row 8 lets by
+  pub row8-edge : validated (line 0x10 (2 ^ 43 - 1) sceneS) ≡ refused (row 9 (3 ∷ (2 ^ 43 - 1) * block ∷ []))
   pub frames512 : validated (line 0x10 512 sceneS) ≡ accepted
   pub last-output : validated (line 9 (2 ^ 48 - block) sceneS) ≡ accepted
   pub no-frames : validated (line 0x10 0 (line 0xC 0x5000_0000 sceneS)) ≡ accepted

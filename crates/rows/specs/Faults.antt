@@ -17,8 +17,10 @@ neighbours f [] = []
 neighbours f (x ∷ []) = []
 neighbours f (x ∷ y ∷ xs) = f x y ∷ neighbours f (y ∷ xs)
 
--- each fault alone draws its row, and of two neighbours together the first is told
+-- each fault alone draws its row; of two neighbours neither undoes the other, and together the first is told
 pub record FirstTold {A : Type 0} (tells : A → Outcome) (sound : A) (faults : List (Fault A)) : Type 0 where
   pub alone : map (λ f. tells (f .change sound)) faults ≡ map (λ f. refused (f .draws)) faults
+  pub apart :
+      neighbours (λ f g. f .change (g .change sound)) faults ≡ neighbours (λ f g. g .change (f .change sound)) faults
   pub together :
       neighbours (λ f g. tells (f .change (g .change sound))) faults ≡ neighbours (λ f g. refused (f .draws)) faults

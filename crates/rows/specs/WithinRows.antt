@@ -99,7 +99,6 @@ faults13 =
     ∷ equalTables 3 6
     ∷ equalTables 4 5
     ∷ equalTables 4 6
-    ∷ equalTables 5 6
     ∷ []
 
 pub record WithinRows : Type 0 where
@@ -114,6 +113,8 @@ pub record WithinRows : Type 0 where
   pub data-super : FirstTold validated imageS (overlaps 0xC 0x5000_0000 ∷ collides 0xD 0x8040_0000 2 ∷ [])
   pub data-device : FirstTold validated imageS (overlaps 0x9 0x900_0000 ∷ collides 0xB 0x20_0000 0 ∷ [])
   pub equal-tables : FirstTold (guarded 3072 baseS supS) sceneS faults13
+  -- the last pair cannot fail beside the one before it: then tables 4 and 5 are equal, too
+  pub last-tables : guarded 3072 baseS supS (equalTables 5 6 .change sceneS) ≡ refused (row 13 (5 ∷ 6 ∷ []))
   -- the lowest position
   pub codes : guarded 3072 (0 ∷ 4 ∷ 5 ∷ []) supS sceneS ≡ refused (row 3 (1 ∷ 1 ∷ []))
   pub supers : guarded 3072 baseS (0 ∷ 0 ∷ 0 ∷ 0 ∷ 1 ∷ 1 ∷ []) sceneS ≡ refused (row 14 (4 ∷ []))

@@ -35,12 +35,13 @@ type Changes = &'static [(usize, u64)];
 
 /// Changes of scene S and the row that refuses them, 0 for none: document 01's example of each row,
 /// the edges that it says are accepted, and what stands next to them.
-const EXAMPLES: [(u64, Changes); 19] = [
+const EXAMPLES: [(u64, Changes); 20] = [
     (4, &[(DEVICE_LEN, 4_096)]),
     (5, &[(FRAME_SIZE, 16_384)]),
     (6, &[(SUP_PA, 0x6000_1000)]),
     (7, &[(L1, OUTPUT_LIMIT)]),
     (8, &[(SUP_FRAMES, SUP_FRAMES_LIMIT)]),
+    (9, &[(SUP_FRAMES, SUP_FRAMES_LIMIT - 1)]),
     (9, &[(SUP_FRAMES, 513)]),
     (10, &[(DATA_PA, OUTPUT_LIMIT - 4_096)]),
     (11, &[(SUP_IPA, 0x8020_0000)]),

@@ -118,10 +118,11 @@ fn expect(outcome: Outcome, answer: &[u64]) {
     assert_eq!(outcome[..answer.len()], *answer, "document 01 gives it");
 }
 
-/// Row 13, of each two neighbours in the list of pairs: the first pair is told.
+/// Row 13, of each two neighbours in the list of pairs: the first pair is told. The last two cannot
+/// fail alone: where tables 4 and 6 are equal and 5 and 6 too, so are 4 and 5.
 fn equal_tables(script: &mut Script) {
     let list: Vec<_> = pairs(TABLES.end).collect();
-    for two in list.windows(2) {
+    for two in list[..list.len() - 1].windows(2) {
         let mut x = scene_s();
         for (first, second) in [two[1], two[0]] {
             x.fields[second] = x.fields[first];
@@ -192,14 +193,46 @@ fn walks(script: &mut Script) {
     }
 }
 
-/// Document 01's examples of rows 18 to 22, and the words that it says are accepted.
+/// Document 01's examples of rows 18 to 22; other tables and leaves that are found; and the words
+/// that it says are accepted.
 fn wrong_words(script: &mut Script) {
     let plain = scene_s();
     let image = altered(scene_s(), |x| {
         (x.fields[IMAGE_PRESENT], x.fields[IMAGE]) = (1, 0x1_4000_0000);
     });
-    let examples: [(&Handed, usize, usize, u64, &[u64]); 8] = [
+    let never = 1 << 54;
+    let image_pa = image.fields[IMAGE];
+    let examples: [(&Handed, usize, usize, u64, &[u64]); 13] = [
         (&plain, 1, 2, 0, &[18, 1, 2, 0, 0, 0x4000_2000]),
+        (
+            &plain,
+            1,
+            2,
+            0x4000_4003,
+            &[18, 1, 2, 1, 0x4000_4000, 0x4000_2000],
+        ),
+        (
+            &image,
+            2,
+            0,
+            never | image_pa | 0x77d,
+            &[19, 1, image_pa, 1, 1, image_pa],
+        ),
+        (&image, 2, 0, 0x7fd, &[19, 1, 0, 2, 0, image_pa]),
+        (
+            &plain,
+            4,
+            1,
+            never | 0x5000_277f,
+            &[20, 1, 1, 0x5000_2000, 1, 1, 1, 0x5000_1000, 2],
+        ),
+        (
+            &plain,
+            5,
+            2,
+            never | 0x6000_07fd,
+            &[20, 2, 1, 0x6000_0000, 2, 1, 1, 0x6040_0000, 1],
+        ),
         (&image, 2, 0, 0, &[19, 0, 0, 0, 0, 0x1_4000_0000]),
         (&plain, 4, 1, 0, &[20, 1, 0, 0, 0, 0, 1, 0x5000_1000, 2]),
         (&plain, 3, 7, 1, &[21, 3, 7, 1]),
