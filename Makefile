@@ -15,7 +15,7 @@ SEED ?= 1
 JUDGE = cargo run --quiet --release --offline --manifest-path oracle/Cargo.toml -p judge --
 TIMED = cargo run --quiet --profile timed --offline --manifest-path oracle/Cargo.toml -p judge --
 
-.PHONY: run test fmt header pages scenes board compare diff record bench arm arm-short sabotage libraries judge-library
+.PHONY: run test fmt header pages scenes board compare compared self-tested judge diff record bench arm arm-short sabotage libraries judge-library
 
 run:
 	@mkdir -p target
@@ -68,13 +68,22 @@ board: libraries
 	@diff board/example.out target/example.out
 	@echo "board: $$(grep -c '^test .* ok$$' target/board.log) tests of the crate, and scene S in Rust and C"
 
-# The port beside the Rust. Without the originals, rt ci still replays their recorded answers.
-compare: libraries
+# The port beside the Rust, and the comparison itself beside seeded faults. Without the originals, rt ci still replays their recorded answers.
+compare: compared self-tested
+
+compared: judge
 	@if [ -d "$(HV_SRC)/hv-s2" ]; then \
-	    $(JUDGE) compare && $(JUDGE) self-test && $(JUDGE) check-record crates && $(JUDGE) check-scenes scenes; \
+	    $(JUDGE) compare && $(JUDGE) check-record crates && $(JUDGE) check-scenes scenes; \
 	else \
 	    echo "no Rust originals in $(HV_SRC): the comparison was not run"; \
 	fi
+
+self-tested: judge
+	@[ ! -d "$(HV_SRC)/hv-s2" ] || $(JUDGE) self-test
+
+# Built before both.
+judge: libraries
+	@[ ! -d "$(HV_SRC)/hv-s2" ] || cargo build --quiet --release --offline --manifest-path oracle/Cargo.toml -p judge
 
 # The same at scale, with other random inputs: ten million of each call or more.
 diff: libraries
