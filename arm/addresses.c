@@ -46,7 +46,7 @@ static void add_entries(struct addresses *list, const uint8_t *map, size_t len, 
 
 void add_scene(struct addresses *list, const struct scene *s)
 {
-    const struct layout *l = &s->layout;
+    const struct s2_layout *l = &s->layout;
     if (l->has_image)
         add_window(list, l->guest_image_pa, BLOCK);
     add_window(list, l->data_ipa_base, TABLE_LEN * PAGE);

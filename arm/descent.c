@@ -7,7 +7,7 @@
 
 static bool in_arena(uint64_t arena, uint64_t named)
 {
-    return named - arena < TABLES * PAGE;
+    return named - arena < S2_TABLE_COUNT * PAGE;
 }
 
 /* The nine index bits of a level. */

@@ -14,7 +14,7 @@ static uint64_t reached[2][2];
 static uint64_t addresses, cuts, updates, begun_again;
 
 /* The walk and the machine agree; returns what both say. */
-static struct verdict judged(const uint64_t *arena, const struct layout *l, uint64_t address)
+static struct verdict judged(const uint64_t *arena, const struct s2_layout *l, uint64_t address)
 {
     struct verdict walk = walked(arena, l, address);
     addresses++;
@@ -101,7 +101,7 @@ static bool update(uint64_t *arena, const struct scene *s, const struct addresse
     for (uint64_t step = 0; step < end; step++) {
         if (is_cut(at, step))
             judge_cut(arena, s, list, old, step);
-        uint32_t row = s2_step(arena, S2_ARENA_LEN, MAPS(s), NUMBERS(&s->layout), step, values);
+        uint32_t row = s2_step(arena, S2_ARENA_LEN, MAPS(s), &s->layout, step, values);
         if (row)
             refused("a step", row);
     }

@@ -14,7 +14,7 @@ const uint32_t frames[FRAMES][2] = {{DOMAIN, 2}, {DOMAIN, 3}, {7, 2}, {70000, 3}
 
 uint64_t draw_arena(void)
 {
-    return ARENAS_FIRST + below((ARENAS_END - ARENAS_FIRST) / PAGE - TABLES) * PAGE;
+    return ARENAS_FIRST + below((ARENAS_END - ARENAS_FIRST) / PAGE - S2_TABLE_COUNT) * PAGE;
 }
 
 /* Mostly in scratch memory, where instructions can be fetched; else anywhere, or at the very end. */
@@ -33,9 +33,9 @@ static uint64_t draw_input(uint64_t blocks)
     return below(TABLE_LEN) * L1_SPAN + below(TABLE_LEN - blocks + 1) * BLOCK;
 }
 
-struct layout tables_at(uint64_t arena)
+struct s2_layout tables_at(uint64_t arena)
 {
-    return (struct layout){
+    return (struct s2_layout){
         .l1_pa = arena,
         .l2_code_pa = arena + 1 * PAGE,
         .l2_data_pa = arena + 2 * PAGE,
@@ -45,7 +45,7 @@ struct layout tables_at(uint64_t arena)
     };
 }
 
-static void draw_layout(struct layout *l, uint64_t arena, unsigned bits)
+static void draw_layout(struct s2_layout *l, uint64_t arena, unsigned bits)
 {
     uint64_t few = below(9), device_blocks = one_in(4) ? 0 : 1 + below(one_in(4) ? TABLE_LEN : 4);
     *l = tables_at(arena);
@@ -85,10 +85,10 @@ static void draw_edges(struct scene *s)
 }
 
 /* Whether the port accepts the layout and no table lies in an output window. */
-static bool layout_serves(const struct layout *l)
+static bool layout_serves(const struct s2_layout *l)
 {
     uint64_t values[8];
-    return !s2_validate(NUMBERS(l), values) && !s2_exposed(NUMBERS(l), values) && !values[0];
+    return !s2_validate(l, values) && !s2_exposed(l, values) && !values[0];
 }
 
 static bool fill(struct scene *s)
@@ -125,7 +125,7 @@ void encode(uint64_t *arena, const struct scene *s)
     uint64_t values[8];
     for (size_t i = 0; i < S2_ARENA_LEN; i++)
         arena[i] = 0;
-    uint32_t row = s2_encode(arena, S2_ARENA_LEN, MAPS(s), NUMBERS(&s->layout), values);
+    uint32_t row = s2_encode(arena, S2_ARENA_LEN, MAPS(s), &s->layout, values);
     if (row)
         refused("encoding", row);
 }
@@ -142,7 +142,7 @@ static struct verdict by_map(const uint8_t *map, size_t len, uint64_t position, 
 
 struct verdict granted(const struct scene *s, uint64_t x)
 {
-    const struct layout *l = &s->layout;
+    const struct s2_layout *l = &s->layout;
     uint64_t in_data = x - l->data_ipa_base, in_super = x - l->sup_ipa_base;
     if (l->has_image && x - l->guest_image_pa < BLOCK)
         return (struct verdict){true, false, true, x};
@@ -155,10 +155,10 @@ struct verdict granted(const struct scene *s, uint64_t x)
     return (struct verdict){0};
 }
 
-struct verdict walked(const uint64_t *arena, const struct layout *l, uint64_t address)
+struct verdict walked(const uint64_t *arena, const struct s2_layout *l, uint64_t address)
 {
     uint64_t values[8];
-    uint32_t row = s2_walk(arena, S2_ARENA_LEN, TABLE_NUMBERS(l), address, values);
+    uint32_t row = s2_walk(arena, S2_ARENA_LEN, TABLES_OF(l), address, values);
     if (row)
         refused("a walk", row);
     bool reached = values[0], writes = values[2] == 2, never = values[3];

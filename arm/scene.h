@@ -12,20 +12,11 @@
 #define BLOCK 0x200000ull
 #define L1_SPAN 0x40000000ull
 #define INPUT_LIMIT (1ull << 39)
-#define TABLES 6
 #define TABLE_LEN 512
 
-struct layout {
-    uint64_t l1_pa, l2_code_pa, l2_data_pa, l3_data_pa, l2_sup_pa, l2_dev_pa;
-    uint64_t has_image, guest_image_pa, data_ipa_base, data_pa_base, frame_size, sup_ipa_base, sup_pa_base;
-    uint64_t device_base, device_len, sup_wx_exempt, sup_frames;
-};
-
-/* A layout's numbers as the port takes them. */
-#define TABLE_NUMBERS(l) (l)->l1_pa, (l)->l2_code_pa, (l)->l2_data_pa, (l)->l3_data_pa, (l)->l2_sup_pa, (l)->l2_dev_pa
-#define NUMBERS(l) \
-    TABLE_NUMBERS(l), (l)->has_image, (l)->guest_image_pa, (l)->data_ipa_base, (l)->data_pa_base, (l)->frame_size, \
-        (l)->sup_ipa_base, (l)->sup_pa_base, (l)->device_base, (l)->device_len, (l)->sup_wx_exempt, (l)->sup_frames
+/* The addresses of a layout's tables, as a walk is lent them. */
+#define TABLES_OF(l) \
+    ((const uint64_t[S2_TABLE_COUNT]){(l)->l1_pa, (l)->l2_code_pa, (l)->l2_data_pa, (l)->l3_data_pa, (l)->l2_sup_pa, (l)->l2_dev_pa})
 
 /* The domain whose maps are filled, and the frames that its edges come from. */
 #define DOMAIN 3
@@ -35,7 +26,7 @@ extern const uint32_t frames[FRAMES][2];
 #define MOST_EDGES 96
 
 struct scene {
-    struct layout layout;
+    struct s2_layout layout;
     struct s2_edge edges[MOST_EDGES];
     size_t edge_count;
     uint8_t base[S2_MAP_LEN], sup[S2_MAP_LEN];
@@ -48,7 +39,7 @@ struct scene {
 uint64_t draw_arena(void);
 
 /* A layout that has nothing but these tables. */
-struct layout tables_at(uint64_t arena);
+struct s2_layout tables_at(uint64_t arena);
 
 /* A scene over the tables at a place, whose outputs have so many bits, that the port accepts and in which no table is in reach. */
 void draw_scene(struct scene *scene, uint64_t arena, unsigned bits);
@@ -61,6 +52,6 @@ _Noreturn void refused(const char *call, uint32_t row);
 struct verdict granted(const struct scene *scene, uint64_t address);
 
 /* What the port's walk reaches. */
-struct verdict walked(const uint64_t *arena, const struct layout *layout, uint64_t address);
+struct verdict walked(const uint64_t *arena, const struct s2_layout *layout, uint64_t address);
 
 #endif

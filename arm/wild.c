@@ -29,7 +29,7 @@ static uint64_t wild_table(uint64_t arena, unsigned bits)
     case 3:
         return (SCRATCH_FIRST + below(MEMORY_END - SCRATCH_FIRST)) & ADDRESS;
     default:
-        return arena + below(TABLES) * PAGE;
+        return arena + below(S2_TABLE_COUNT) * PAGE;
     }
 }
 
@@ -58,10 +58,10 @@ static void fill_wild(uint64_t *words, size_t count, uint64_t arena, unsigned bi
 }
 
 /* By the definition, `translation` in crates/manual/specs/Translation.antt: what `judge_translation` is proved to answer. */
-static struct translated by_definition(uint64_t arena, const struct layout *l, const struct places *p, enum access access, uint64_t x)
+static struct translated by_definition(uint64_t arena, const struct s2_layout *l, const struct places *p, enum access access, uint64_t x)
 {
     uint64_t pa;
-    bool reached = judge_translation((const uint64_t *)arena, S2_ARENA_LEN, TABLE_NUMBERS(l), p->at, p->count, has_xnx(), access, x, &pa);
+    bool reached = judge_translation((const uint64_t *)arena, S2_ARENA_LEN, TABLES_OF(l), p->at, p->count, has_xnx(), access, x, &pa);
     return (struct translated){reached, pa};
 }
 
@@ -91,7 +91,7 @@ static struct translated under_the_regime(struct translated t, unsigned bits)
     return t.reached && t.pa >> bits ? (struct translated){0} : t;
 }
 
-static void compare(uint64_t arena, const struct layout *l, unsigned bits, uint64_t x)
+static void compare(uint64_t arena, const struct s2_layout *l, unsigned bits, uint64_t x)
 {
     struct verdict walk = walked((const uint64_t *)arena, l, x);
     struct places places = places_of(arena, x);
@@ -141,7 +141,7 @@ bool run_wild(uint64_t scenes)
     for (uint64_t n = 0; n < scenes; n++) {
         uint64_t arena = draw_arena();
         unsigned bits = draw_bits();
-        struct layout l = tables_at(arena);
+        struct s2_layout l = tables_at(arena);
         fill_wild((uint64_t *)arena, S2_ARENA_LEN, arena, bits);
         fill_wild((uint64_t *)OUTSIDE, TABLE_LEN, arena, bits);
         run_under(arena, bits);

@@ -5,7 +5,7 @@
 
 #define STEPS_A_SCENE 64
 #define WALKS_A_SCENE 64
-#define LAYOUT_NUMBERS (sizeof(struct layout) / sizeof(uint64_t))
+#define LAYOUT_NUMBERS (sizeof(struct s2_layout) / sizeof(uint64_t))
 
 static uint64_t digest;
 
@@ -73,19 +73,19 @@ static void change(struct scene *s)
 static void note_tables(const struct scene *s)
 {
     static uint64_t arena[S2_ARENA_LEN];
-    const struct layout *l = &s->layout;
+    const struct s2_layout *l = &s->layout;
     uint64_t values[8];
-    note_answer(s2_validate(NUMBERS(l), values), values);
-    note_answer(s2_exposed(NUMBERS(l), values), values);
-    note_answer(s2_encode(arena, S2_ARENA_LEN, MAPS(s), NUMBERS(l), values), values);
+    note_answer(s2_validate(l, values), values);
+    note_answer(s2_exposed(l, values), values);
+    note_answer(s2_encode(arena, S2_ARENA_LEN, MAPS(s), l, values), values);
     note_words(arena);
-    note_answer(s2_verify(arena, S2_ARENA_LEN, MAPS(s), NUMBERS(l), values), values);
+    note_answer(s2_verify(arena, S2_ARENA_LEN, MAPS(s), l, values), values);
     for (int i = 0; i < WALKS_A_SCENE; i++) {
         uint64_t x = one_in(2) ? l->data_ipa_base + below(TABLE_LEN * PAGE) : l->sup_ipa_base + below(8 * BLOCK);
-        note_answer(s2_walk(arena, S2_ARENA_LEN, TABLE_NUMBERS(l), x, values), values);
+        note_answer(s2_walk(arena, S2_ARENA_LEN, TABLES_OF(l), x, values), values);
     }
     for (int i = 0; i < STEPS_A_SCENE; i++)
-        note_answer(s2_step(arena, S2_ARENA_LEN, MAPS(s), NUMBERS(l), below(S2_STEPS + 1), values), values);
+        note_answer(s2_step(arena, S2_ARENA_LEN, MAPS(s), l, below(S2_STEPS + 1), values), values);
     note_words(arena);
 }
 

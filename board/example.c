@@ -8,17 +8,24 @@
 #define DOMAIN 3
 #define SUPERS 4
 
-/* Where the tables stand, in the order of S2_TABLES. */
-#define TABLES 0x40000000, 0x40001000, 0x40002000, 0x40003000, 0x40004000, 0x40005000
-
-/* The layout, in the order of S2_LAYOUT. */
-#define LAYOUT \
-    TABLES, \
-    /* has_image, guest_image_pa */ 0, 0, \
-    /* data_ipa_base, data_pa_base, frame_size */ 0x80000000, 0x50000000, 0x1000, \
-    /* sup_ipa_base, sup_pa_base */ 0xC0000000, 0x60000000, \
-    /* device_base, device_len */ 0x9000000, 0x200000, \
-    /* sup_wx_exempt, sup_frames */ 0, SUPERS
+static const struct s2_layout layout = {
+    .l1_pa = 0x40000000,
+    .l2_code_pa = 0x40001000,
+    .l2_data_pa = 0x40002000,
+    .l3_data_pa = 0x40003000,
+    .l2_sup_pa = 0x40004000,
+    .l2_dev_pa = 0x40005000,
+    .has_image = 0,
+    .data_ipa_base = 0x80000000,
+    .data_pa_base = 0x50000000,
+    .frame_size = 0x1000,
+    .sup_ipa_base = 0xC0000000,
+    .sup_pa_base = 0x60000000,
+    .device_base = 0x9000000,
+    .device_len = 0x200000,
+    .sup_wx_exempt = 0,
+    .sup_frames = SUPERS,
+};
 
 /* Owner and kind of each frame. The domain owns frames 1 to 4; its tables are 3, of pages, and 4, of blocks. */
 static const uint32_t frames[5][2] = {{65536, 0}, {DOMAIN, 1}, {DOMAIN, 0}, {DOMAIN, 2}, {DOMAIN, 3}};
@@ -29,7 +36,7 @@ static struct s2_edge edges[2] = {
     {.parent = 4, .slot = 0, .child = 2, .writable = false, .leaf = true, .execute = true},
 };
 
-/* On a board these words stand at the addresses of TABLES. */
+/* On a board these words stand at the addresses of the layout's tables. */
 static uint64_t arena[S2_ARENA_LEN];
 static uint8_t base[S2_MAP_LEN], sup[SUPERS];
 static uint64_t values[8];
@@ -79,7 +86,10 @@ static void print_words(void)
 
 static void walk(const char *what, uint64_t ipa)
 {
-    accepted("walk", s2_walk(arena, S2_ARENA_LEN, TABLES, ipa, values));
+    const uint64_t tables[S2_TABLE_COUNT] = {
+        layout.l1_pa, layout.l2_code_pa, layout.l2_data_pa, layout.l3_data_pa, layout.l2_sup_pa, layout.l2_dev_pa,
+    };
+    accepted("walk", s2_walk(arena, S2_ARENA_LEN, tables, ipa, values));
     printf("%s: 0x%" PRIx64 " reaches ", what, ipa);
     if (values[0] == 0)
         printf("nothing\n");
@@ -89,13 +99,13 @@ static void walk(const char *what, uint64_t ipa)
 
 static void verify(void)
 {
-    accepted("verify", s2_verify(arena, S2_ARENA_LEN, base, S2_MAP_LEN, sup, SUPERS, LAYOUT, values));
+    accepted("verify", s2_verify(arena, S2_ARENA_LEN, base, S2_MAP_LEN, sup, SUPERS, &layout, values));
 }
 
 /* Before the tables are in use, so that no walker sees the stores in between. */
 static void encode(void)
 {
-    accepted("encode", s2_encode(arena, S2_ARENA_LEN, base, S2_MAP_LEN, sup, SUPERS, LAYOUT, values));
+    accepted("encode", s2_encode(arena, S2_ARENA_LEN, base, S2_MAP_LEN, sup, SUPERS, &layout, values));
     /* DSB ISHST, ISB: only then VTTBR_EL2 names the tables. */
 }
 
@@ -105,7 +115,7 @@ static void update(void)
     edges[0].writable = false;
     fill();
     for (uint64_t step = 0; step < S2_STEPS; step++) {
-        accepted("step", s2_step(arena, S2_ARENA_LEN, base, S2_MAP_LEN, sup, SUPERS, LAYOUT, step, values));
+        accepted("step", s2_step(arena, S2_ARENA_LEN, base, S2_MAP_LEN, sup, SUPERS, &layout, step, values));
         if (step + 1 == S2_ARENA_LEN) {
             /* DSB ISHST, TLBI VMALLS12E1IS, DSB ISH, ISB: translations of the old words are cached still. */
             walk("update, half-way", 0x80001234);
@@ -122,10 +132,10 @@ int main(void)
     static const uint64_t addresses[8] = {
         0x80001234, 0x80000000, 0x80002000, 0xC0400010, 0xC0800000, 0x9000018, 0x9200000, 0x8080001234,
     };
-    accepted("validate", s2_validate(LAYOUT, values));
+    accepted("validate", s2_validate(&layout, values));
     printf("layout: accepted\n");
     /* No row refuses a layout that hands a table to the guest. */
-    accepted("exposed", s2_exposed(LAYOUT, values));
+    accepted("exposed", s2_exposed(&layout, values));
     if (values[0] != 0) {
         printf("table %" PRIu64 " lies in the output of window %" PRIu64 "\n", values[1], values[2]);
         return 1;

@@ -65,30 +65,30 @@ extern "C" {
 #define S2_BASE 1
 #define S2_SUPER 2
 
-/* Where tables 1 to 6 stand. */
-#define S2_TABLES \
-    uint64_t l1_pa, \
-    uint64_t l2_code_pa, \
-    uint64_t l2_data_pa, \
-    uint64_t l3_data_pa, \
-    uint64_t l2_sup_pa, \
-    uint64_t l2_dev_pa
+/* The tables. */
+#define S2_TABLE_COUNT 6
 
 /* A layout: document 01's sixteen fields in their order, with whether there is an image just before the image. Of `has_image` and
  * `sup_wx_exempt`, zero is no and all else yes. */
-#define S2_LAYOUT \
-    S2_TABLES, \
-    uint64_t has_image, \
-    uint64_t guest_image_pa, \
-    uint64_t data_ipa_base, \
-    uint64_t data_pa_base, \
-    uint64_t frame_size, \
-    uint64_t sup_ipa_base, \
-    uint64_t sup_pa_base, \
-    uint64_t device_base, \
-    uint64_t device_len, \
-    uint64_t sup_wx_exempt, \
-    uint64_t sup_frames
+struct s2_layout {
+    uint64_t l1_pa;
+    uint64_t l2_code_pa;
+    uint64_t l2_data_pa;
+    uint64_t l3_data_pa;
+    uint64_t l2_sup_pa;
+    uint64_t l2_dev_pa;
+    uint64_t has_image;
+    uint64_t guest_image_pa;
+    uint64_t data_ipa_base;
+    uint64_t data_pa_base;
+    uint64_t frame_size;
+    uint64_t sup_ipa_base;
+    uint64_t sup_pa_base;
+    uint64_t device_base;
+    uint64_t device_len;
+    uint64_t sup_wx_exempt;
+    uint64_t sup_frames;
+};
 
 /* An edge as a record of sixteen bytes. A flag's byte is 0 or 1; the last byte is padding and may be any. */
 struct s2_edge {
@@ -101,7 +101,7 @@ struct s2_edge {
 };
 
 /* Whether the layout can be encoded: rows 4 to 12. */
-uint32_t s2_validate(S2_LAYOUT, uint64_t values[8]);
+uint32_t s2_validate(const struct s2_layout *layout, uint64_t values[8]);
 
 /* Both maps from the domain's edges: rows 2 and 15 to 17. An edge is parent, slot, child, writable, leaf, execute, of which the last
  * three are zero for no and all else for yes; a frame is owner and kind. */
@@ -127,7 +127,7 @@ uint32_t s2_encode(
     uint64_t *arena, size_t arena_len,
     const uint8_t *base, size_t base_len,
     const uint8_t *sup, size_t sup_len,
-    S2_LAYOUT,
+    const struct s2_layout *layout,
     uint64_t values[8]);
 
 /* One step of an update to the tables of a layout and two maps: rows 1 to 14, then 26. A step makes one store: below S2_ARENA_LEN, 0 at
@@ -140,15 +140,15 @@ uint32_t s2_step(
     uint64_t *arena, size_t arena_len,
     const uint8_t *base, size_t base_len,
     const uint8_t *sup, size_t sup_len,
-    S2_LAYOUT,
+    const struct s2_layout *layout,
     uint64_t step,
     uint64_t values[8]);
 
-/* What an address reaches: row 1. The walk starts at l1_pa; a fetch reads the first table whose address is exactly the one named, else
+/* What an address reaches: row 1. `tables` has the addresses of tables 1 to 6. The walk starts at the first; a fetch reads the first table whose address is exactly the one named, else
  * zero. It tells 1 and the leaf, with the offset of the address joined to pa, or zeros where it reaches nothing. */
 uint32_t s2_walk(
     const uint64_t *arena, size_t arena_len,
-    S2_TABLES,
+    const uint64_t tables[S2_TABLE_COUNT],
     uint64_t ipa,
     uint64_t values[8]);
 
@@ -158,12 +158,12 @@ uint32_t s2_verify(
     const uint64_t *arena, size_t arena_len,
     const uint8_t *base, size_t base_len,
     const uint8_t *sup, size_t sup_len,
-    S2_LAYOUT,
+    const struct s2_layout *layout,
     uint64_t values[8]);
 
 /* Whether a table lies in the output of a window: rows 4 to 12. It tells 1, the lowest such table and the lowest window that it lies
  * in, or zeros where there is none. */
-uint32_t s2_exposed(S2_LAYOUT, uint64_t values[8]);
+uint32_t s2_exposed(const struct s2_layout *layout, uint64_t values[8]);
 
 /* Whether the domain may reach every frame that the map maps: rows 2, 3, 23 and 24. A grant is grantor, grantee, frame, writable. */
 uint32_t s2_authorized(

@@ -1,6 +1,36 @@
 # Prints the C prototype of each exported function of the Rattle files, one to a line, as a C preprocessor leaves it, and each struct
-# that they may lend, with commas in the place of semicolons.
-# awk -f tools/prototypes.awk crates/edge/src/lib.rt crates/s2/src/lib.rt
+# that they may lend, with commas in the place of semicolons. A layout is lent as its numbers: the struct's fields stand in the order of
+# the places that `Layout::of` reads them at.
+# awk -f tools/prototypes.awk crates/layout/src/lib.rt crates/edge/src/lib.rt crates/s2/src/lib.rt
+
+/^    pub const [A-Z_]+: usize = [0-9]+;/ {
+    sub(/:/, "", $3)
+    sub(/;/, "", $6)
+    constant_of["Layout::" $3] = $6 + 0
+}
+
+/^    pub fn of\(x: &\[u64; Self::NUMBERS\]\)/ { numbered = 1 }
+
+# The image's presence and address.
+numbered && /GuestImage::of/ {
+    at = place($0)
+    field[at] = "has_image"
+    field[at + 1] = "guest_image_pa"
+    next
+}
+
+numbered && /: x\[[0-9]+\]/ {
+    sub(/:/, "", $1)
+    field[place($0)] = $1
+}
+
+numbered && /^    }/ {
+    text = record("Layout") " {"
+    for (at = 0; at < constant_of["Layout::NUMBERS"]; at++)
+        text = text " " number("u64") " " field[at] ","
+    print text " }"
+    numbered = 0
+}
 
 /^#\[repr\(C\)\]/ { lent = 1 }
 
@@ -63,11 +93,24 @@ function parameter(text, pair, name, type, constant, length_of) {
     }
     if (type ~ /^[A-Z]/)
         return constant record(type) " *" name ", size_t " length_of
+    if (type == "u64; Layout::NUMBERS")
+        return constant record("Layout") " *" name
     if (type ~ /;/) {
         split(type, pair, /; /)
-        return constant number(pair[1]) " " name "[" pair[2] "]"
+        return constant number(pair[1]) " " name "[" count_of(pair[2]) "]"
     }
     return constant number(type) " *" name ", size_t " name "_len"
+}
+
+# The place of the first number that a line reads.
+function place(line) {
+    match(line, /x\[[0-9]+/)
+    return substr(line, RSTART + 2, RLENGTH - 2) + 0
+}
+
+# A count, or the one that a name stands for.
+function count_of(text) {
+    return text in constant_of ? constant_of[text] : text
 }
 
 function number(type) {

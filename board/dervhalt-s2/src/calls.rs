@@ -11,57 +11,22 @@ use crate::maps::Maps;
 use crate::names::Span;
 use crate::records::{DomId, Edge, EdgeRow, Edges, Frame, Grant};
 
-/// Declares calls with a layout as their parameters, between those before and after it.
-macro_rules! declare_with_layout {
-    ($($call:ident([$($before:ident: $first:ty),*], $($after:ident: $last:ty),+);)*) => {
+/// Declares calls that are lent an arena and two maps before the layout.
+macro_rules! declare_with_arena {
+    ($($call:ident($arena:ty, $($after:ident: $last:ty),+);)*) => {
         extern "C" {
             $(fn $call(
-                $($before: $first,)*
-                l1_pa: u64,
-                l2_code_pa: u64,
-                l2_data_pa: u64,
-                l3_data_pa: u64,
-                l2_sup_pa: u64,
-                l2_dev_pa: u64,
-                has_image: u64,
-                guest_image_pa: u64,
-                data_ipa_base: u64,
-                data_pa_base: u64,
-                frame_size: u64,
-                sup_ipa_base: u64,
-                sup_pa_base: u64,
-                device_base: u64,
-                device_len: u64,
-                sup_wx_exempt: u64,
-                sup_frames: u64,
+                arena: $arena,
+                arena_len: usize,
+                base: *const u8,
+                base_len: usize,
+                sup: *const u8,
+                sup_len: usize,
+                layout: &Numbers,
                 $($after: $last),+
             ) -> u32;)*
         }
     };
-}
-
-/// The same, with an arena and two maps before the layout.
-macro_rules! declare_with_arena {
-    ($($call:ident($arena:ty, $($after:ident: $last:ty),+);)*) => {
-        declare_with_layout! {
-            $($call(
-                [
-                    arena: $arena,
-                    arena_len: usize,
-                    base: *const u8,
-                    base_len: usize,
-                    sup: *const u8,
-                    sup_len: usize
-                ],
-                $($after: $last),+
-            );)*
-        }
-    };
-}
-
-declare_with_layout! {
-    s2_validate([], values: &mut [u64; 8]);
-    s2_exposed([], values: &mut [u64; 8]);
 }
 
 declare_with_arena! {
@@ -120,15 +85,14 @@ declare_exact! {
 }
 
 extern "C" {
+    fn s2_validate(layout: &Numbers, values: &mut [u64; 8]) -> u32;
+
+    fn s2_exposed(layout: &Numbers, values: &mut [u64; 8]) -> u32;
+
     fn s2_walk(
         arena: *const u64,
         arena_len: usize,
-        l1_pa: u64,
-        l2_code_pa: u64,
-        l2_data_pa: u64,
-        l3_data_pa: u64,
-        l2_sup_pa: u64,
-        l2_dev_pa: u64,
+        tables: &TableNumbers,
         ipa: u64,
         values: &mut [u64; 8],
     ) -> u32;
@@ -145,41 +109,25 @@ extern "C" {
     ) -> u32;
 }
 
-/// Makes a call with a layout as its parameters, between those before and after it.
-macro_rules! with_layout {
-    ($call:ident, [$($before:expr),*], $numbers:expr, $($after:expr),+) => {{
-        let [l1, l2_code, l2_data, l3_data, l2_sup, l2_dev, rest @ ..] = *$numbers;
-        let [has_image, image, data_ipa, data_pa, frame_size, rest @ ..] = rest;
-        let [sup_ipa, sup_pa, device, device_len, exempt, sup_frames] = rest;
-        $call(
-            $($before,)* l1, l2_code, l2_data, l3_data, l2_sup, l2_dev, has_image, image, data_ipa,
-            data_pa, frame_size, sup_ipa, sup_pa, device, device_len, exempt, sup_frames,
-            $($after),+
-        )
-    }};
-}
-
-/// The same, with both maps and the pointer and length of an arena before the layout.
+/// Makes a call with the pointer and length of an arena and both maps before the layout.
 macro_rules! with_arena {
     ($call:ident, $arena:expr, $arena_len:expr, $maps:expr, $numbers:expr, $($after:expr),+) => {{
         let (base, sup) = ($maps.base(), $maps.sup());
-        with_layout!(
-            $call,
-            [$arena, $arena_len, base.as_ptr(), base.len(), sup.as_ptr(), sup.len()],
-            $numbers,
+        $call(
+            $arena, $arena_len, base.as_ptr(), base.len(), sup.as_ptr(), sup.len(), $numbers,
             $($after),+
         )
     }};
 }
 
 pub fn validate(numbers: &Numbers) -> Answer {
-    // SAFETY: eight values are written.
-    answer(|values| unsafe { with_layout!(s2_validate, [], numbers, values) })
+    // SAFETY: seventeen numbers are read, and eight values are written.
+    answer(|values| unsafe { s2_validate(numbers, values) })
 }
 
 pub fn exposed(numbers: &Numbers) -> Answer {
-    // SAFETY: eight values are written.
-    answer(|values| unsafe { with_layout!(s2_exposed, [], numbers, values) })
+    // SAFETY: seventeen numbers are read, and eight values are written.
+    answer(|values| unsafe { s2_exposed(numbers, values) })
 }
 
 pub fn encode(arena: &mut [u64], maps: Maps<'_>, numbers: &Numbers) -> Answer {
@@ -201,14 +149,9 @@ pub fn verify(arena: &[u64], maps: Maps<'_>, numbers: &Numbers) -> Answer {
 }
 
 pub fn walk(arena: &[u64], tables: &TableNumbers, ipa: u64) -> Answer {
-    let [l1, l2_code, l2_data, l3_data, l2_sup, l2_dev] = *tables;
     let (words, len) = (arena.as_ptr(), arena.len());
-    // SAFETY: the arena is as long as is said, and eight values are written.
-    answer(|values| unsafe {
-        s2_walk(
-            words, len, l1, l2_code, l2_data, l3_data, l2_sup, l2_dev, ipa, values,
-        )
-    })
+    // SAFETY: the arena is as long as is said, six addresses are read, and eight values are written.
+    answer(|values| unsafe { s2_walk(words, len, tables, ipa, values) })
 }
 
 /// Makes a call that is lent edges, by their form, between the parameters before and after them.

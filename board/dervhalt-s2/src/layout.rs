@@ -111,7 +111,7 @@ impl Layout {
         }
     }
 
-    /// The order of the calls' seventeen parameters.
+    /// The seventeen numbers, in the order in which the calls are lent them.
     pub(crate) fn numbers(&self) -> Numbers {
         [
             self.l1_pa,

@@ -21,29 +21,16 @@ pub enum Translated {
 #[no_mangle]
 pub extern "C" fn judge_translation(
     arena: &[u64],
-    l1_pa: u64,
-    l2_code_pa: u64,
-    l2_data_pa: u64,
-    l3_data_pa: u64,
-    l2_sup_pa: u64,
-    l2_dev_pa: u64,
+    tables: &[u64; Layout::TABLES],
     places: &[[u64; 3]],
     xnx: u32,
     access: u32,
     ipa: u64,
     byte: &mut [u64; 1],
 ) -> u32
-    ensures { λ r. ⌜ (r ∷ now (byte .exit)) ≡ translationAnswer (now (arena .entry)) («l1_pa» ∷ «l2_code_pa» ∷ «l2_data_pa» ∷ «l3_data_pa» ∷ «l2_sup_pa» ∷ «l2_dev_pa» ∷ []) (now (places .entry)) xnx access ipa ⌝ }
+    ensures { λ r. ⌜ (r ∷ now (byte .exit)) ≡ translationAnswer (now (arena .entry)) (now (tables .entry)) (now (places .entry)) xnx access ipa ⌝ }
 {
-    let tables = [
-        l1_pa,
-        l2_code_pa,
-        l2_data_pa,
-        l3_data_pa,
-        l2_sup_pa,
-        l2_dev_pa,
-    ];
-    match translate(arena, &tables, places, xnx != 0, access, ipa) {
+    match translate(arena, tables, places, xnx != 0, access, ipa) {
         Translated::Byte(pa) => {
             *byte = [pa];
             1

@@ -1,5 +1,5 @@
-// The calls of board code: numbers and slices in, document 01's number and the carried values out. A layout is its sixteen fields in
-// number order, with whether there is an image just before the image. A call returns 0 where it accepts.
+// The calls of board code: numbers and slices in, document 01's number and the carried values out. A layout is lent as its numbers: the
+// sixteen fields in their order, with whether there is an image just before the image. A call returns 0 where it accepts.
 use edge::Edge;
 use exposed::Exposed;
 use layout::Layout;
@@ -16,48 +16,10 @@ ghost use Rattle.s2.specs.Answers.{validateAnswer, fillAnswer, EncodeAns
 
 // Rows 4 to 12.
 #[no_mangle]
-pub extern "C" fn s2_validate(
-    l1_pa: u64,
-    l2_code_pa: u64,
-    l2_data_pa: u64,
-    l3_data_pa: u64,
-    l2_sup_pa: u64,
-    l2_dev_pa: u64,
-    has_image: u64,
-    guest_image_pa: u64,
-    data_ipa_base: u64,
-    data_pa_base: u64,
-    frame_size: u64,
-    sup_ipa_base: u64,
-    sup_pa_base: u64,
-    device_base: u64,
-    device_len: u64,
-    sup_wx_exempt: u64,
-    sup_frames: u64,
-    values: &mut [u64; 8],
-) -> u32
-    ensures { λ r. ⌜ (r ∷ now (values .exit)) ≡ validateAnswer («l1_pa» ∷ «l2_code_pa» ∷ «l2_data_pa» ∷ «l3_data_pa» ∷ «l2_sup_pa» ∷ «l2_dev_pa» ∷ «has_image» ∷ «guest_image_pa» ∷ «data_ipa_base» ∷ «data_pa_base» ∷ «frame_size» ∷ «sup_ipa_base» ∷ «sup_pa_base» ∷ «device_base» ∷ «device_len» ∷ «sup_wx_exempt» ∷ «sup_frames» ∷ []) ⌝ }
+pub extern "C" fn s2_validate(layout: &[u64; Layout::NUMBERS], values: &mut [u64; 8]) -> u32
+    ensures { λ r. ⌜ (r ∷ now (values .exit)) ≡ validateAnswer (now (layout .entry)) ⌝ }
 {
-    let numbers = [
-        l1_pa,
-        l2_code_pa,
-        l2_data_pa,
-        l3_data_pa,
-        l2_sup_pa,
-        l2_dev_pa,
-        has_image,
-        guest_image_pa,
-        data_ipa_base,
-        data_pa_base,
-        frame_size,
-        sup_ipa_base,
-        sup_pa_base,
-        device_base,
-        device_len,
-        sup_wx_exempt,
-        sup_frames,
-    ];
-    answer(validate::validate(Layout::of(&numbers)), values)
+    answer(validate::validate(Layout::of(layout)), values)
 }
 
 // Rows 2 and 15 to 17. Both maps are filled, as far as document 01 says where it refuses.
@@ -102,50 +64,12 @@ pub extern "C" fn s2_encode(
     arena: &mut [u64],
     base: &[u8],
     sup: &[u8],
-    l1_pa: u64,
-    l2_code_pa: u64,
-    l2_data_pa: u64,
-    l3_data_pa: u64,
-    l2_sup_pa: u64,
-    l2_dev_pa: u64,
-    has_image: u64,
-    guest_image_pa: u64,
-    data_ipa_base: u64,
-    data_pa_base: u64,
-    frame_size: u64,
-    sup_ipa_base: u64,
-    sup_pa_base: u64,
-    device_base: u64,
-    device_len: u64,
-    sup_wx_exempt: u64,
-    sup_frames: u64,
+    layout: &[u64; Layout::NUMBERS],
     values: &mut [u64; 8],
 ) -> u32
-    ensures { λ r. ⌜ EncodeAnswer («l1_pa» ∷ «l2_code_pa» ∷ «l2_data_pa» ∷ «l3_data_pa» ∷ «l2_sup_pa» ∷ «l2_dev_pa» ∷ «has_image» ∷ «guest_image_pa» ∷ «data_ipa_base» ∷ «data_pa_base» ∷ «frame_size» ∷ «sup_ipa_base» ∷ «sup_pa_base» ∷ «device_base» ∷ «device_len» ∷ «sup_wx_exempt» ∷ «sup_frames» ∷ []) (now (base .entry)) (now (sup .entry)) (now (arena .entry)) (r ∷ now (values .exit)) (now (arena .exit)) ⌝ }
+    ensures { λ r. ⌜ EncodeAnswer (now (layout .entry)) (now (base .entry)) (now (sup .entry)) (now (arena .entry)) (r ∷ now (values .exit)) (now (arena .exit)) ⌝ }
 {
-    let numbers = [
-        l1_pa,
-        l2_code_pa,
-        l2_data_pa,
-        l3_data_pa,
-        l2_sup_pa,
-        l2_dev_pa,
-        has_image,
-        guest_image_pa,
-        data_ipa_base,
-        data_pa_base,
-        frame_size,
-        sup_ipa_base,
-        sup_pa_base,
-        device_base,
-        device_len,
-        sup_wx_exempt,
-        sup_frames,
-    ];
-    answer(
-        encode::encode(arena, base, sup, Layout::of(&numbers)),
-        values,
-    )
+    answer(encode::encode(arena, base, sup, Layout::of(layout)), values)
 }
 
 // Rows 1 to 14, then 26. One store of an update; a refusal leaves every word of the arena as found.
@@ -154,49 +78,14 @@ pub extern "C" fn s2_step(
     arena: &mut [u64],
     base: &[u8],
     sup: &[u8],
-    l1_pa: u64,
-    l2_code_pa: u64,
-    l2_data_pa: u64,
-    l3_data_pa: u64,
-    l2_sup_pa: u64,
-    l2_dev_pa: u64,
-    has_image: u64,
-    guest_image_pa: u64,
-    data_ipa_base: u64,
-    data_pa_base: u64,
-    frame_size: u64,
-    sup_ipa_base: u64,
-    sup_pa_base: u64,
-    device_base: u64,
-    device_len: u64,
-    sup_wx_exempt: u64,
-    sup_frames: u64,
+    layout: &[u64; Layout::NUMBERS],
     step: u64,
     values: &mut [u64; 8],
 ) -> u32
-    ensures { λ r. ⌜ StepAnswer («l1_pa» ∷ «l2_code_pa» ∷ «l2_data_pa» ∷ «l3_data_pa» ∷ «l2_sup_pa» ∷ «l2_dev_pa» ∷ «has_image» ∷ «guest_image_pa» ∷ «data_ipa_base» ∷ «data_pa_base» ∷ «frame_size» ∷ «sup_ipa_base» ∷ «sup_pa_base» ∷ «device_base» ∷ «device_len» ∷ «sup_wx_exempt» ∷ «sup_frames» ∷ []) (now (base .entry)) (now (sup .entry)) step (now (arena .entry)) (r ∷ now (values .exit)) (now (arena .exit)) ⌝ }
+    ensures { λ r. ⌜ StepAnswer (now (layout .entry)) (now (base .entry)) (now (sup .entry)) step (now (arena .entry)) (r ∷ now (values .exit)) (now (arena .exit)) ⌝ }
 {
-    let numbers = [
-        l1_pa,
-        l2_code_pa,
-        l2_data_pa,
-        l3_data_pa,
-        l2_sup_pa,
-        l2_dev_pa,
-        has_image,
-        guest_image_pa,
-        data_ipa_base,
-        data_pa_base,
-        frame_size,
-        sup_ipa_base,
-        sup_pa_base,
-        device_base,
-        device_len,
-        sup_wx_exempt,
-        sup_frames,
-    ];
     answer(
-        update::step(arena, base, sup, Layout::of(&numbers), step),
+        update::step(arena, base, sup, Layout::of(layout), step),
         values,
     )
 }
@@ -205,26 +94,13 @@ pub extern "C" fn s2_step(
 #[no_mangle]
 pub extern "C" fn s2_walk(
     arena: &[u64],
-    l1_pa: u64,
-    l2_code_pa: u64,
-    l2_data_pa: u64,
-    l3_data_pa: u64,
-    l2_sup_pa: u64,
-    l2_dev_pa: u64,
+    tables: &[u64; Layout::TABLES],
     ipa: u64,
     values: &mut [u64; 8],
 ) -> u32
-    ensures { λ r. ⌜ (r ∷ now (values .exit)) ≡ walkAnswer (now (arena .entry)) («l1_pa» ∷ «l2_code_pa» ∷ «l2_data_pa» ∷ «l3_data_pa» ∷ «l2_sup_pa» ∷ «l2_dev_pa» ∷ []) ipa ⌝ }
+    ensures { λ r. ⌜ (r ∷ now (values .exit)) ≡ walkAnswer (now (arena .entry)) (now (tables .entry)) ipa ⌝ }
 {
-    let tables = [
-        l1_pa,
-        l2_code_pa,
-        l2_data_pa,
-        l3_data_pa,
-        l2_sup_pa,
-        l2_dev_pa,
-    ];
-    match walker::walk(arena, tables, ipa) {
+    match walker::walk(arena, *tables, ipa) {
         Walked::Told(reached) => told(reached.words(), values),
         Walked::Refused(refusal) => answer(Verdict::Refused(refusal), values),
     }
@@ -236,96 +112,23 @@ pub extern "C" fn s2_verify(
     arena: &[u64],
     base: &[u8],
     sup: &[u8],
-    l1_pa: u64,
-    l2_code_pa: u64,
-    l2_data_pa: u64,
-    l3_data_pa: u64,
-    l2_sup_pa: u64,
-    l2_dev_pa: u64,
-    has_image: u64,
-    guest_image_pa: u64,
-    data_ipa_base: u64,
-    data_pa_base: u64,
-    frame_size: u64,
-    sup_ipa_base: u64,
-    sup_pa_base: u64,
-    device_base: u64,
-    device_len: u64,
-    sup_wx_exempt: u64,
-    sup_frames: u64,
+    layout: &[u64; Layout::NUMBERS],
     values: &mut [u64; 8],
 ) -> u32
-    ensures { λ r. ⌜ (r ∷ now (values .exit)) ≡ verifyAnswer («l1_pa» ∷ «l2_code_pa» ∷ «l2_data_pa» ∷ «l3_data_pa» ∷ «l2_sup_pa» ∷ «l2_dev_pa» ∷ «has_image» ∷ «guest_image_pa» ∷ «data_ipa_base» ∷ «data_pa_base» ∷ «frame_size» ∷ «sup_ipa_base» ∷ «sup_pa_base» ∷ «device_base» ∷ «device_len» ∷ «sup_wx_exempt» ∷ «sup_frames» ∷ []) (now (arena .entry)) (now (base .entry)) (now (sup .entry)) ⌝ }
+    ensures { λ r. ⌜ (r ∷ now (values .exit)) ≡ verifyAnswer (now (layout .entry)) (now (arena .entry)) (now (base .entry)) (now (sup .entry)) ⌝ }
 {
-    let numbers = [
-        l1_pa,
-        l2_code_pa,
-        l2_data_pa,
-        l3_data_pa,
-        l2_sup_pa,
-        l2_dev_pa,
-        has_image,
-        guest_image_pa,
-        data_ipa_base,
-        data_pa_base,
-        frame_size,
-        sup_ipa_base,
-        sup_pa_base,
-        device_base,
-        device_len,
-        sup_wx_exempt,
-        sup_frames,
-    ];
     answer(
-        verify::verify_encoding(arena, base, sup, Layout::of(&numbers)),
+        verify::verify_encoding(arena, base, sup, Layout::of(layout)),
         values,
     )
 }
 
 // Rows 4 to 12. Which table lies in which output window.
 #[no_mangle]
-pub extern "C" fn s2_exposed(
-    l1_pa: u64,
-    l2_code_pa: u64,
-    l2_data_pa: u64,
-    l3_data_pa: u64,
-    l2_sup_pa: u64,
-    l2_dev_pa: u64,
-    has_image: u64,
-    guest_image_pa: u64,
-    data_ipa_base: u64,
-    data_pa_base: u64,
-    frame_size: u64,
-    sup_ipa_base: u64,
-    sup_pa_base: u64,
-    device_base: u64,
-    device_len: u64,
-    sup_wx_exempt: u64,
-    sup_frames: u64,
-    values: &mut [u64; 8],
-) -> u32
-    ensures { λ r. ⌜ (r ∷ now (values .exit)) ≡ exposedAnswer («l1_pa» ∷ «l2_code_pa» ∷ «l2_data_pa» ∷ «l3_data_pa» ∷ «l2_sup_pa» ∷ «l2_dev_pa» ∷ «has_image» ∷ «guest_image_pa» ∷ «data_ipa_base» ∷ «data_pa_base» ∷ «frame_size» ∷ «sup_ipa_base» ∷ «sup_pa_base» ∷ «device_base» ∷ «device_len» ∷ «sup_wx_exempt» ∷ «sup_frames» ∷ []) ⌝ }
+pub extern "C" fn s2_exposed(layout: &[u64; Layout::NUMBERS], values: &mut [u64; 8]) -> u32
+    ensures { λ r. ⌜ (r ∷ now (values .exit)) ≡ exposedAnswer (now (layout .entry)) ⌝ }
 {
-    let numbers = [
-        l1_pa,
-        l2_code_pa,
-        l2_data_pa,
-        l3_data_pa,
-        l2_sup_pa,
-        l2_dev_pa,
-        has_image,
-        guest_image_pa,
-        data_ipa_base,
-        data_pa_base,
-        frame_size,
-        sup_ipa_base,
-        sup_pa_base,
-        device_base,
-        device_len,
-        sup_wx_exempt,
-        sup_frames,
-    ];
-    match exposed::exposed_table(Layout::of(&numbers)) {
+    match exposed::exposed_table(Layout::of(layout)) {
         Exposed::Told(exposure) => told(exposure.words(), values),
         Exposed::Refused(refusal) => answer(Verdict::Refused(refusal), values),
     }

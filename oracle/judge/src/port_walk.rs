@@ -10,38 +10,29 @@ extern "C" {
     pub fn s2_walk(
         arena: *const u64,
         arena_len: usize,
-        l1_pa: u64,
-        l2_code_pa: u64,
-        l2_data_pa: u64,
-        l3_data_pa: u64,
-        l2_sup_pa: u64,
-        l2_dev_pa: u64,
+        tables: *const [u64; 6],
         ipa: u64,
         values: *mut u64,
     ) -> u32;
 }
 
-/// The answer to a walk. It fails if the call has changed the arena, or what stands around it.
+/// The answer to a walk. It fails if the call has changed the arena or the addresses, or what
+/// stands around them.
 pub fn walk(x: &Walk) -> Outcome {
     let mut arena = Fenced::new(&x.arena, UNWRITTEN);
-    let [l1, l2_code, l2_data, l3_data, l2_sup, l2_dev] = x.tables;
-    // SAFETY: the arena is as long as is said, and eight values are written. The arena may be
-    // written through, so that a store shows below.
+    let mut tables = Fenced::new(&x.tables, UNWRITTEN);
+    // SAFETY: the arena is as long as is said, six addresses are lent, and eight values are written.
+    // What is lent may be written through, so that a store shows below.
     let outcome = outcome(|values| unsafe {
         s2_walk(
             arena.as_mut_ptr(),
             x.arena.len(),
-            l1,
-            l2_code,
-            l2_data,
-            l3_data,
-            l2_sup,
-            l2_dev,
+            tables.as_mut_ptr().cast(),
             x.ipa,
             values,
         )
     });
-    let unchanged = arena.lent() == Some(&x.arena[..]);
-    assert!(unchanged, "s2_walk stores into or around the arena of {x}");
+    let unchanged = arena.lent() == Some(&x.arena[..]) && tables.lent() == Some(&x.tables[..]);
+    assert!(unchanged, "s2_walk stores into or around what {x} lends");
     outcome
 }

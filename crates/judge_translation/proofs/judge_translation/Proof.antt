@@ -5,9 +5,6 @@ use Rattle.judge_translation.specs.Answer.{translatedNumbers, translated
 use Rattle.judge_translation.proofs.judge_translation.Statement.{statement}
 use Rattle.judge_translation.proofs.judge_translation.Tie as tie
 
-slice-aggregate-translate : tie.Need-slice-aggregate-translate
-slice-aggregate-translate c = search needs
-
 translate-requires : tie.Need-translate-requires
 translate-requires c κs = search needs
 
@@ -31,7 +28,6 @@ pub judge-translation-spec : {M : Type 1} → statement M
 judge-translation-spec =
     tie.close
     (tie.spec
-    slice-aggregate-translate
     translate-requires
     enum-known-pa
     enum-told

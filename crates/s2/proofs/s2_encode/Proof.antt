@@ -26,7 +26,7 @@ same-length c = search needs
 returns : tie.Need-returns
 returns c =
     let v = c .before .before .before .before in
-    let a = v .before .before .before .before .before .before .before .args in
+    let a = v .before .before .before .before .before .before .args in
     let e = v .encode .ensures in
     let l = v .before .of .ensures in
     let outcome = e .answer ∙ ap (λ x. first (arenaGuardRows outputLimit (now (a .arena)) (now (a .base)) (now (a .sup)) x)) l in

@@ -23,7 +23,7 @@ same-length c = search needs
 returns : tie.Need-returns
 returns c =
     let v = c .before .before .before .before in
-    let a = v .before .before .before .before .before .before .before .args in
+    let a = v .before .before .before .before .before .before .args in
     let e = v .step .ensures in
     let l = v .before .of .ensures in
     let outcome = e .answer ∙ ap (λ x. first (stepRows x (now (a .base)) (now (a .sup)) (a .step) (now (a .arena)))) l in

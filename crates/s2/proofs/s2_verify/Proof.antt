@@ -21,7 +21,7 @@ returns : tie.Need-returns
 returns c =
     let v = c .before .before in
     let o = v .before in
-    let a = o .before .before .before .before .before .args in
+    let a = o .before .before .before .before .args in
     c .answer .ensures
     ∙ ap outcomeWords (v .verify-encoding .ensures ∙ ap (λ l. first (verifyRows (now (a .arena)) (now (a .base)) (now (a .sup)) l)) (o .of .ensures))
 

@@ -10,8 +10,7 @@ use crate::fill::Filling;
 use crate::inputs::Words;
 use crate::layout::Fields;
 use crate::lending::Lent;
-use crate::port_layouts::{s2_encode, s2_exposed, s2_step, s2_validate, s2_verify};
-use crate::port_layouts::{with_layout, with_scene};
+use crate::port_layouts::{s2_encode, s2_exposed, s2_step, s2_validate, s2_verify, with_scene};
 use crate::port_maps::{s2_authorized, Exact, Fill};
 use crate::port_walk::s2_walk;
 
@@ -22,53 +21,47 @@ fn accepts(number: u32, values: &mut Words) -> bool {
 }
 
 pub fn validate(fields: &Fields, values: &mut Words) -> bool {
-    // SAFETY: eight values are written.
-    let number = unsafe { with_layout!(s2_validate, [], *fields, values.as_mut_ptr()) };
+    // SAFETY: a layout is lent, and eight values are written.
+    let number = unsafe { s2_validate(fields, values.as_mut_ptr()) };
     accepts(number, values)
 }
 
 pub fn exposed(fields: &Fields, values: &mut Words) -> bool {
-    // SAFETY: eight values are written.
-    let number = unsafe { with_layout!(s2_exposed, [], *fields, values.as_mut_ptr()) };
+    // SAFETY: a layout is lent, and eight values are written.
+    let number = unsafe { s2_exposed(fields, values.as_mut_ptr()) };
     accepts(number, values)
 }
 
 pub fn encode(scene: &Both, arena: &mut Arena, values: &mut Words) -> bool {
     let lent = scene.lent(arena);
     // SAFETY: the arena and each map are as long as is said, and eight values are written.
-    let number = unsafe { with_scene!(s2_encode, lent, scene.fields, values.as_mut_ptr()) };
+    let number = unsafe { with_scene!(s2_encode, lent, &scene.fields, values.as_mut_ptr()) };
     accepts(number, values)
 }
 
 pub fn step(scene: &Both, arena: &mut Arena, step: u64, values: &mut Words) -> bool {
     let lent = scene.lent(arena);
     // SAFETY: the arena and each map are as long as is said, and eight values are written.
-    let number = unsafe { with_scene!(s2_step, lent, scene.fields, step, values.as_mut_ptr()) };
+    let number = unsafe { with_scene!(s2_step, lent, &scene.fields, step, values.as_mut_ptr()) };
     accepts(number, values)
 }
 
 pub fn verify(scene: &Both, arena: &mut Arena, values: &mut Words) -> bool {
     let lent = scene.lent(arena);
     // SAFETY: the arena and each map are as long as is said, and eight values are written.
-    let number = unsafe { with_scene!(s2_verify, lent, scene.fields, values.as_mut_ptr()) };
+    let number = unsafe { with_scene!(s2_verify, lent, &scene.fields, values.as_mut_ptr()) };
     accepts(number, values)
 }
 
 /// Whether the address reaches something.
 pub fn walk(arena: &Arena, tables: &[u64; 6], ipa: u64, values: &mut Words) -> bool {
     let words = arena.0.as_flattened();
-    let [l1, l2_code, l2_data, l3_data, l2_sup, l2_dev] = *tables;
-    // SAFETY: the arena is as long as is said, and eight values are written.
+    // SAFETY: the arena is as long as is said, six addresses are lent, and eight values are written.
     let number = unsafe {
         s2_walk(
             words.as_ptr(),
             words.len(),
-            l1,
-            l2_code,
-            l2_data,
-            l3_data,
-            l2_sup,
-            l2_dev,
+            tables,
             ipa,
             values.as_mut_ptr(),
         )
