@@ -1,5 +1,6 @@
 # make run       proves the program and what it needs, builds it and runs it
 # make test      the gate; its last line is rt's
+# make library   what board code links
 # make diff      the comparison with the Rust at scale
 # make arm       an Arm machine as judge
 # make bench     times beside the Rust
@@ -15,7 +16,7 @@ SEED ?= 1
 JUDGE = cargo run --quiet --release --offline --manifest-path oracle/Cargo.toml -p judge --
 TIMED = cargo run --quiet --profile timed --offline --manifest-path oracle/Cargo.toml -p judge --
 
-.PHONY: run test fmt header pages scenes board compare compared self-tested judge diff record bench arm arm-short sabotage libraries judge-library
+.PHONY: run test fmt header pages scenes board compare compared self-tested judge diff record bench arm arm-short sabotage library libraries judge-library
 
 run:
 	@mkdir -p target
@@ -46,8 +47,8 @@ header:
 	@diff target/exported target/declared
 	@echo "header: $$(grep -c '(' target/declared) calls as they are exported"
 
-# What the pages say of files and counts.
-pages:
+# What the pages say of files and counts, and of the stack.
+pages: library
 	@tools/pages.sh
 
 # What the dump prints of each scene.
@@ -111,11 +112,18 @@ arm-short: judge-library
 sabotage: libraries
 	@sabotage/run.sh
 
-libraries:
+# What board code links: for the board, and for the machine that builds.
+library:
 	@mkdir -p target
-	@{ rt check s2dump && rt staticlib probe_windows && tools/module.sh probe && tools/module.sh s2; } \
+	@{ tools/module.sh s2 && tools/aarch64.sh s2 >target/stack; } >target/library.log 2>&1 || { cat target/library.log target/stack; exit 1; }
+	@echo "library: target/aarch64/libs2.a for the board, target/staticlib/libs2.a for this machine, include/dervhalt_s2.h; $$(cat target/stack)"
+
+# What the comparison links beside it, and the dump.
+libraries: library
+	@{ rt check s2dump && rt staticlib probe_windows && tools/module.sh probe; } \
 	    >target/libraries.log 2>&1 || { cat target/libraries.log; exit 1; }
 
 # What the Arm judge alone links.
 judge-library: libraries
-	@tools/module.sh judge_translation >target/judge-library.log 2>&1 || { cat target/judge-library.log; exit 1; }
+	@{ tools/module.sh judge_translation && tools/aarch64.sh judge_translation; } \
+	    >target/judge-library.log 2>&1 || { cat target/judge-library.log; exit 1; }
