@@ -6,8 +6,8 @@
  * changes nothing but `values`; s2_fill and s2_fill_edges alone leave in both maps, on 15 and 16, the edges before the failing one, and on 17
  * all edges.
  *
- * Nothing is asked of the numbers. Each pointer is aligned, not null, and to as many elements as the length beside it says; what a call
- * may write overlaps nothing else that it is lent.
+ * Nothing is asked of the numbers. Each pointer is aligned, not null, and to as many elements as the length beside it or its own type
+ * says; what a call may write overlaps nothing else that it is lent. What is const is read alone, and not kept.
  *
  * row     carries
  * 1, 2    nothing

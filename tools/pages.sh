@@ -25,6 +25,9 @@ says docs/TRUST.md "$(believed $calls $demand2 $demand3 $dump)"
 
 says docs/SABOTAGE.md "There are $(ls crates/*/must-fail/*.edit | wc -l), in $(ls -d crates/*/must-fail | wc -l) crates"
 
+# Where the library has been made.
+[ ! -e target/stack ] || says board/README.md "$(cat target/stack)"
+
 # Each exported call has a contract, over `values` at exit; the step assigns to the arena once.
 awk '/pub extern "C" fn/ { calls++; open = 1 } /ensures/ && open { described += /values \.exit/; open = 0 }
     END { if (calls != described) { print "an exported call is not described"; exit 1 } }' crates/s2/src/lib.rt

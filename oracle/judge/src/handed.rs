@@ -6,7 +6,8 @@
 use crate::inputs::Outcome;
 use crate::maps::NO_PERMISSION;
 
-/// Faults in which each two neighbours among the numbers of a layout are exchanged.
+/// Faults in which each two neighbours among the numbers of a layout are exchanged, or all are lent
+/// from the second on.
 macro_rules! exchanged_numbers {
     ($call:literal, $x:ident => $fields:expr) => {
         $crate::handed::exchanged_numbers!(
@@ -16,14 +17,20 @@ macro_rules! exchanged_numbers {
         )
     };
     ($call:literal, $x:ident => $numbers:expr, $of:literal, $(($first:literal $second:literal))*) => {
-        &[$($crate::function::Fault {
-            name: concat!($call, "-handed-", $first, "-for-", $second),
-            slip: concat!("numbers ", $first, " and ", $second, " of ", $of, " are exchanged"),
-            op: (),
-            alter: |$x, reply| {
-                *reply = $crate::function::with($x, |$x| $numbers.swap($first - 1, $second - 1));
-            },
-        }),*]
+        &[
+            $($crate::handed::handed!(
+                (),
+                concat!($call, "-handed-", $first, "-for-", $second),
+                concat!("numbers ", $first, " and ", $second, " of ", $of, " are exchanged"),
+                $x => $numbers.swap($first - 1, $second - 1)
+            ),)*
+            $crate::handed::handed!(
+                (),
+                concat!($call, "-handed-from-the-second"),
+                concat!("the numbers of ", $of, " are lent from the second on, the first comes last"),
+                $x => $numbers.rotate_left(1)
+            ),
+        ]
     };
 }
 pub(crate) use exchanged_numbers;
