@@ -103,7 +103,7 @@ fn walk(arena: &[u64], x: &[u64; 6], l: Layout) -> bool {
         l.l2_sup_pa,
         l.l2_dev_pa,
     ];
-    let answer = walk::walk(arena, tables, x[4]).words();
+    let answer = walk::walk(arena, &tables, x[4]).words();
     lines::print_line(&answer)
 }
 

@@ -23,12 +23,12 @@ pub enum Stop {
 }
 
 // Row 1 alone. An address of 2^39 or more would wrap into the same tables, and reaches nothing.
-pub fn walk(arena: &[u64], tables: [u64; Layout::TABLES], ipa: u64) -> Walked
-    ensures { λ r. ⌜ toldOf r ≡ walkedFrom (now (arena .entry)) tables ipa ⌝ }
+pub fn walk(arena: &[u64], tables: &[u64; Layout::TABLES], ipa: u64) -> Walked
+    ensures { λ r. ⌜ toldOf r ≡ walkedFrom (now (arena .entry)) (now (tables .entry)) ipa ⌝ }
 {
     let verdict = lent::arena_len(arena);
     match verdict {
-        Verdict::Accepted => Walked::Told(walk_arena(arena, &tables, ipa)),
+        Verdict::Accepted => Walked::Told(walk_arena(arena, tables, ipa)),
         Verdict::Refused(refusal) => Walked::Refused(refusal),
     }
 }

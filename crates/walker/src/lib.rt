@@ -6,30 +6,31 @@ ghost use mathlib.Core.Path.{_≡_};
 ghost use Rattle.reach.specs.Reach.{toldOf};
 ghost use Rattle.walk.specs.Walk.{walkedFrom};
 
-// The 3,072 words, and the addresses of the six tables in the arena's order.
-pub struct Walker<'a> {
+// The 3,072 words, and the addresses of the six tables in the arena's order. Two lifetimes: the borrow checker covers no caller that
+// would have to find a common one.
+pub struct Walker<'a, 'b> {
     pub words: &'a [u64],
-    pub tables: [u64; Layout::TABLES],
+    pub tables: &'b [u64; Layout::TABLES],
 }
 
-impl<'a> Walker<'a> {
-    pub fn new(words: &'a [u64], tables: [u64; Layout::TABLES]) -> Walker<'a>
-        ensures { λ w. ⌜ (w .words ≡ words .entry) × (w .tables ≡ tables) ⌝ }
+impl<'a, 'b> Walker<'a, 'b> {
+    pub fn new(words: &'a [u64], tables: &'b [u64; Layout::TABLES]) -> Walker<'a, 'b>
+        ensures { λ w. ⌜ (w .words ≡ words .entry) × (w .tables ≡ tables .entry) ⌝ }
     {
         Walker { words, tables }
     }
 
     // Row 1 alone.
     pub fn walk(self, ipa: u64) -> Walked
-        ensures { λ r. ⌜ toldOf r ≡ walkedFrom (now (self .entry .words)) (self .entry .tables) ipa ⌝ }
+        ensures { λ r. ⌜ toldOf r ≡ walkedFrom (now (self .entry .words)) (now (self .entry .tables)) ipa ⌝ }
     {
         walk::walk(self.words, self.tables, ipa)
     }
 }
 
 // A walker for one address: its parameters are plain, so the borrow checker covers its callers.
-pub fn walk(words: &[u64], tables: [u64; Layout::TABLES], ipa: u64) -> Walked
-    ensures { λ r. ⌜ toldOf r ≡ walkedFrom (now (words .entry)) tables ipa ⌝ }
+pub fn walk(words: &[u64], tables: &[u64; Layout::TABLES], ipa: u64) -> Walked
+    ensures { λ r. ⌜ toldOf r ≡ walkedFrom (now (words .entry)) (now (tables .entry)) ipa ⌝ }
 {
     Walker::new(words, tables).walk(ipa)
 }

@@ -1,6 +1,5 @@
 -- `walk` meets its contract: row 1 decides whether it is told.
 use mathlib.Core.Path.{_≡_, _∙_, sym, ap}
-use native.Mathlib.Omega.{arith}
 use borrow.Author.Needs.{needs}
 use borrow.Author.Tests.{eqb-true, not-false}
 use denote.Ref.{now}
@@ -18,16 +17,13 @@ arena-len-requires c κs = search needs
 enum-told : tie.Need-enum-told
 enum-told c = search needs
 
-slice-aggregate-walk-arena : tie.Need-slice-aggregate-walk-arena
-slice-aggregate-walk-arena c = search needs
-
 walk-arena-requires : tie.Need-walk-arena-requires
 unfolding row1
 walk-arena-requires c κs =
     let v = c .before .before .before in
     let s = c .before .before .before .before .before in
     let told : first (row1 (now (s .args .arena))) ≡ accepted = sym (v .arena-len .ensures) ∙ ap outcomeOf (c .before .enum-told .given .1) in
-    (eqb-true _ _ (not-false _ (test _ _ _ (none _ told))), omega (arith, s .good .1 .0 .1 .0 .1))
+    (eqb-true _ _ (not-false _ (test _ _ _ (none _ told))), c .walk-arena-arg .given .0)
 
 enum-known-verdict : tie.Need-enum-known-verdict
 enum-known-verdict c = search needs
@@ -48,7 +44,6 @@ walk-spec =
     (tie.spec
     arena-len-requires
     enum-told
-    slice-aggregate-walk-arena
     walk-arena-requires
     enum-known-verdict
     returns

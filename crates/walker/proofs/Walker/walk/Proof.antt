@@ -1,5 +1,5 @@
--- `walker::Walker::walk`, a method with `self`, meets its contract: a walk of its MIR, by hand. The struct is taken apart, and `walk::walk` is called on the slice, the array and the number. All that the proof knows of it is that it meets its contract.
--- What the slice owns goes to the callee (`Held.antt`'s `opens`), beside the lifetime's token, which comes back. What the array and the number own is made anew.
+-- `walker::Walker::walk`, a method with `self`, meets its contract: a walk of its MIR, by hand. The struct is taken apart, and `walk::walk` is called on the two references and the number. All that the proof knows of it is that it meets its contract.
+-- What the references own goes to the callee (`Held.antt`'s `opens`), beside both lifetimes' tokens, which come back.
 -- Assumes nothing.
 use mathlib.Core.Path.{_≡_, refl}
 use Prim.Native.Nat.{ℕ, _<_, _^_}
@@ -14,9 +14,10 @@ use prog.Memory.{Memory}
 use prog.Routine.{Routine}
 use prog.Wp.{Heap, Calls, Loops, WpFn, Tables}
 use ghost.Atoms.{Atoms, sem}
+use contract.Lifetimes.{Lfts}
 use contract.Monad.{Fun, fact}
 use contract.Running.{givenOf, tables, tablesOf}
-use types.Kit.{Given, ‵, raw, _⊛_, ⋆, some, later, _$_, _∵_, !, qed, by, move, use1, split, join, pick, fsplit, fjoin, fjoin3, suffices, frame, await, done}
+use types.Kit.{Given, ‵, raw, _⊛_, ⋆, some, later, _$_, _∵_, !, qed, by, move, drop, use1, split, join, pick, fsplit, fjoin, fjoin3, suffices, frame, await, done}
 use types.Part.{whole, sub, look-in}
 use types.Run.{look, init, forget, stop, fld, from, load, of-opd, and-then, no-more, assigns, land, returns, enter, alloc1, alloc0, params1, pass1, pass0, free1, free0}
 use sound.WpLaws.{FmC, fmOf, WpFn-mono}
@@ -25,8 +26,7 @@ use denote.Laws.{Is, shows}
 use denote.Plain.{uint-vals, uint-tells}
 use denote.Builtin.{u64}
 use denote.Ref.{now}
-use denote.Signature.{namedLft}
-use denote.Steps.{owned, peeks, heard, nothing}
+use denote.Steps.{peeks, heard, nothing}
 use denote.Enum.Laws as EL
 use denote.Struct.Laws as LL
 use denote.Triple.Statement.{Contract, Triple}
@@ -47,8 +47,7 @@ use Rattle.walk.proofs.walk.Symbol.{name as #walk·walk}
 use Rattle.walk.proofs.walk.Met as covered-thm
 use Rattle.walk.specs.Walk.{walkedFrom}
 use Rattle.walker.specs.declared.Walker.{Walker}
-use Rattle.walker.proofs.Held.{Words, Addresses, wordsVal, addressesVal, B, are-addresses, addresses-make, addresses-lawful, opens}
-use Rattle.walker.proofs.Walker as T
+use Rattle.walker.proofs.Held.{wordsVal, addressesVal, B, D, L, Fields, opens}
 use Rattle.walker.proofs.Walker.Laws as T′
 use Rattle.walker.proofs.Walker.walk.Key.{name as #walker·walk}
 use Rattle.walker.proofs.Walker.walk as walk
@@ -63,51 +62,57 @@ module _ {M : Type 1} (𝓤 : URA M) (H : Heap 𝓤) (A : Atoms 𝓤) (mem : Mem
   abbrev Covered : Contract 𝓤
   Covered = tripleOf 𝓤 H A covered.signature (covered.spec 𝓤 H A mem run)
 
-module _ {M : Type 1} (𝓤 : URA M) (H : Heap 𝓤) (A : Atoms 𝓤) (W : Given 𝓤 H A) (mem : Memory → SProp 𝓤) (run : Routine → Fun 𝓤) (κ : Lft) (q : Share) (d : Walker) (x : ℕ) (p : Is (B (κ, tt)) d (T′.lowered d ∷ [])) (fits : x < 2 ^ 64) where
+module _ {M : Type 1} (𝓤 : URA M) (H : Heap 𝓤) (A : Atoms 𝓤) (W : Given 𝓤 H A) (mem : Memory → SProp 𝓤) (run : Routine → Fun 𝓤) (κ κ′ : Lft) (q q′ : Share) (d : Walker) (x : ℕ) (fits : x < 2 ^ 64) where
+  abbrev κs : Lfts 2
+  κs = (κ, (κ′, tt))
+
+  abbrev qs : Share × (Share × Unit {0})
+  qs = (q, (q′, tt))
+
   abbrev at : List Val × (List Val × Unit {0})
   at = (T′.lowered d ∷ [], (vint w64 x ∷ [], tt))
 
   abbrev Post : Val → SProp 𝓤
-  Post = walkOf 𝓤 H A walk.ended stayed (walk.clauses 𝓤 H A mem run) .post (((κ, tt), (q, tt), tt, (d, (x, tt)), at), tt)
+  Post = walkOf 𝓤 H A walk.ended stayed (walk.clauses 𝓤 H A mem run) .post ((κs, qs, tt, (d, (x, tt)), at), tt)
 
   -- what the callee is passed
   abbrev to : Covered 𝓤 H A mem run .Ghost
-  to = (((κ, tt), (q, tt), tt, (d .words, (d .tables, (x, tt))), (wordsVal (d .words) ∷ [], (addressesVal (d .tables) ∷ [], (vint w64 x ∷ [], tt)))), tt)
+  to = ((κs, qs, tt, (d .words, (d .tables, (x, tt))), (wordsVal (d .words) ∷ [], (addressesVal (d .tables) ∷ [], (vint w64 x ∷ [], tt)))), tt)
 
   -- what the struct owns gives what the callee asks
-  apart : ent 𝓤 (onEntry 𝓤 H A walk.signature (κ, tt) (q, tt) (d, (x, tt)) at) (Covered 𝓤 H A mem run .pre to)
+  apart : ent 𝓤 (onEntry 𝓤 H A walk.signature κs qs (d, (x, tt)) at) (Covered 𝓤 H A mem run .pre to)
   apart =
-      qed W ((‵ (flft κ q) ⊛ ‵ ftrue) ∷ ‵ (owns (B (κ, tt) ∷ u64 ∷ []) (d, (x, tt)) at) ∷ []) ∵
-      move ! (1 ∷ []) $ fsplit ! $ use1 W (‵ (Words κ .own (d .words) (wordsVal (d .words) ∷ []))) (opens 𝓤 H A W κ d (T′.lowered d)) $ move ! (1 ∷ 0 ∷ []) $
-      -- [what the number owns; what the slice owns; the token]
-      owned ! Addresses (Is Addresses) (addresses-make 𝓤 H A W) (d .tables) _ (are-addresses κ d _ p) $ fjoin ! $ move ! (1 ∷ 0 ∷ []) $ fjoin ! $ move ! (1 ∷ 0 ∷ []) $ join ! $ frame ! $ done !
+      qed W ((‵ (flft κ q) ⊛ ‵ (flft κ′ q′) ⊛ ‵ ftrue) ∷ ‵ (owns (B κs ∷ u64 ∷ []) (d, (x, tt)) at) ∷ []) ∵
+      move ! (1 ∷ []) $ fsplit ! $ use1 W (‵ (Fields κs (d .words) (d .tables))) (opens 𝓤 H A W κs d (T′.lowered d)) $ fsplit ! $ move ! (1 ∷ []) $ fsplit ! $ move ! (1 ∷ []) $ drop ! $
+      -- [what the addresses own; what the slice owns; what the number owns; the tokens]
+      move ! (0 ∷ 2 ∷ []) $ fjoin ! $ move ! (1 ∷ 0 ∷ []) $ fjoin ! $ move ! (1 ∷ 0 ∷ []) $ join ! $ frame ! $ done !
 
   -- the clause that the callee's result meets
   abbrev Told : Walked → Type 0
-  Told r = toldOf r ≡ walkedFrom (now (d .words)) (d .tables) x
+  Told r = toldOf r ≡ walkedFrom (now (d .words)) (now (d .tables)) x
 
-  said : (r : Walked) → ent 𝓤 (ensured 𝓤 H A covered.ended (covered.clauses 𝓤 H A mem run) (κ, tt) (d .words, (d .tables, (x, tt))) tt r) (fact 𝓤 (Told r))
-  said r = exE 𝓤 _ (λ ws. snd∗ 𝓤 (sem 𝓤 H A (lasts covered.ended (κ, tt) (d .words, (d .tables, (x, tt))) ws)) (fact 𝓤 (Told r)))
+  said : (r : Walked) → ent 𝓤 (ensured 𝓤 H A covered.ended (covered.clauses 𝓤 H A mem run) κs (d .words, (d .tables, (x, tt))) tt r) (fact 𝓤 (Told r))
+  said r = exE 𝓤 _ (λ ws. snd∗ 𝓤 (sem 𝓤 H A (lasts covered.ended κs (d .words, (d .tables, (x, tt))) ws)) (fact 𝓤 (Told r)))
 
-  exits : (r : Walked) (u : Val) → Told r → ent 𝓤 (⋆ 𝓤 H A (‵ (S.the-row .own r (u ∷ [])) ∷ (‵ (flft κ q) ⊛ ‵ ftrue) ∷ [])) (Post u)
+  exits : (r : Walked) (u : Val) → Told r → ent 𝓤 (⋆ 𝓤 H A (‵ (S.the-row .own r (u ∷ [])) ∷ (‵ (flft κ q) ⊛ ‵ (flft κ′ q′) ⊛ ‵ ftrue) ∷ [])) (Post u)
   exits r u e =
-      qed W (‵ (S.the-row .own r (u ∷ [])) ∷ (‵ (flft κ q) ⊛ ‵ ftrue) ∷ []) ∵
-      suffices ! _ (ends-at 𝓤 H A walk.ended stayed (walk.clauses 𝓤 H A mem run) W (((κ, tt), (q, tt), tt, (d, (x, tt)), at), tt) u r (tt, (tt, tt)) (tt, (tt, tt))) $ says ! e $
+      qed W (‵ (S.the-row .own r (u ∷ [])) ∷ (‵ (flft κ q) ⊛ ‵ (flft κ′ q′) ⊛ ‵ ftrue) ∷ []) ∵
+      suffices ! _ (ends-at 𝓤 H A walk.ended stayed (walk.clauses 𝓤 H A mem run) W ((κs, qs, tt, (d, (x, tt)), at), tt) u r (tt, (tt, tt)) (tt, (tt, tt))) $ says ! e $
       move ! (1 ∷ []) $ frame ! $ nothing ! $ nothing ! $ nothing ! $ fjoin3 ! $ frame ! $ done !
 
   module _ (C : Calls 𝓤 H) (Λ : Loops 𝓤 H) (fm : FmC 𝓤 H (W .laws) C) (known : Triple 𝓤 (C #walk·walk) (Covered 𝓤 H A mem run)) where
-    steps : Holds (hasTy (T′.mir (named 0)) (T′.lowered d)) × WT (T′.lowered d) → ent 𝓤 (onEntry 𝓤 H A walk.signature (κ, tt) (q, tt) (d, (x, tt)) at) (WpFn 𝓤 H C Λ code.function (T′.lowered d ∷ vint w64 x ∷ []) Post)
+    steps : Holds (hasTy (T′.mir (named 0) (named 1)) (T′.lowered d)) × WT (T′.lowered d) → ent 𝓤 (onEntry 𝓤 H A walk.signature κs qs (d, (x, tt)) at) (WpFn 𝓤 H C Λ code.function (T′.lowered d ∷ vint w64 x ∷ []) Post)
     steps wt =
-        qed W (raw (onEntry 𝓤 H A walk.signature (κ, tt) (q, tt) (d, (x, tt)) at) ∷ []) ∵ enter ! C Λ code.function (T′.lowered d ∷ vint w64 x ∷ []) _ $
+        qed W (raw (onEntry 𝓤 H A walk.signature κs qs (d, (x, tt)) at) ∷ []) ∵ enter ! C Λ code.function (T′.lowered d ∷ vint w64 x ∷ []) _ $
         alloc1 ! (λ l₀. alloc1 ! (λ l₁. alloc1 ! (λ l₂. alloc1 ! (λ l₃. alloc1 ! (λ l₄. alloc0 ! $ params1 ! $ pass1 ! (init ! 6 refl wt) $ pass1 ! (init ! 4 refl (tt, record { fits = fits })) $ pass0 ! $
         -- [room for _4; …; room for _3; …; _2; …; _1; …; room for _0; …; what is had at entry]
         assigns ! (of-opd ! (load ! (from ! (fld ! refl (stop !))) (look-in ! 6 (sub ! 0 refl (whole !))))) (from ! (stop !)) (init ! 2 refl (tt, wt .1 .0)) $
-        assigns ! (of-opd ! (load ! (from ! (fld ! refl (stop !))) (look-in ! 6 (sub ! 1 refl (whole !))))) (from ! (stop !)) (init ! 0 refl (addresses-lawful 𝓤 H A W .typed (d .tables) _ (are-addresses κ d _ p) .0)) $
+        assigns ! (of-opd ! (load ! (from ! (fld ! refl (stop !))) (look-in ! 6 (sub ! 1 refl (whole !))))) (from ! (stop !)) (init ! 0 refl (tt, wt .1 .1 .0)) $
         move ! (10 ∷ []) $ use1 W (raw (Covered 𝓤 H A mem run .pre to)) apart $
         calls-at ! fm (Covered 𝓤 H A mem run) known to (and-then ! (load ! (from ! (stop !)) (look ! 3 refl)) (and-then ! (load ! (from ! (stop !)) (look ! 1 refl)) (and-then ! (load ! (from ! (stop !)) (look ! 5 refl)) (no-more !)))) (λ u.
-        use1 W (later (some (λ (r : Walked). ((‵ (flft κ q) ⊛ ‵ ftrue) ⊛ ‵ (S.the-row .own r (u ∷ []))) ⊛ raw (ensured 𝓤 H A covered.ended (covered.clauses 𝓤 H A mem run) (κ, tt) (d .words, (d .tables, (x, tt))) tt r)))) (id⊢ 𝓤 _) $ await ! tt $ pick ! (λ r.
+        use1 W (later (some (λ (r : Walked). ((‵ (flft κ q) ⊛ ‵ (flft κ′ q′) ⊛ ‵ ftrue) ⊛ ‵ (S.the-row .own r (u ∷ []))) ⊛ raw (ensured 𝓤 H A covered.ended (covered.clauses 𝓤 H A mem run) κs (d .words, (d .tables, (x, tt))) tt r)))) (id⊢ 𝓤 _) $ await ! tt $ pick ! (λ r.
         split ! $ move ! (1 ∷ []) $ use1 W (raw (fact 𝓤 (Told r))) (said r) $ heard ! (Told r) (λ e. split ! $ move ! (1 ∷ []) $
-        -- [the result; the token; _4; …; _3; …; _2; …; _1; …; room for _0; …]
+        -- [the result; the tokens; _4; …; _3; …; _2; …; _1; …; room for _0; …]
         peeks ! S.the-row (Is S.the-row) (shows 𝓤 H A S.the-row) r (u ∷ []) (λ is.
         land ! (from ! (stop !)) (init ! 10 refl (EL.lawful S.the-type S′.the-laws 𝓤 H A W tt .typed r _ is .0)) $
         returns ! (look ! 10 refl) $ forget ! 2 refl $ forget ! 4 refl $ forget ! 6 refl $ forget ! 8 refl $ forget ! 10 refl $
@@ -116,8 +121,8 @@ module _ {M : Type 1} (𝓤 : URA M) (H : Heap 𝓤) (A : Atoms 𝓤) (W : Given
 module _ {M : Type 1} (𝓤 : URA M) (H : Heap 𝓤) (A : Atoms 𝓤) (W : Given 𝓤 H A) (mem : Memory → SProp 𝓤) (run : Routine → Fun 𝓤) where
   walk-walks : (C : Calls 𝓤 H) (Λ : Loops 𝓤 H) → FmC 𝓤 H (W .laws) C → Triple 𝓤 (C #walk·walk) (Covered 𝓤 H A mem run)
       → Walks 𝓤 H A walk.ended stayed (WpFn 𝓤 H C Λ code.function) (walk.clauses 𝓤 H A mem run)
-  walk-walks C Λ fm known = walked 𝓤 H A walk.ended stayed (walk.clauses 𝓤 H A mem run) (WpFn 𝓤 H C Λ code.function) (λ κs. ((λ d. T′.lowered d ∷ []), (uint-vals w64, tt))) (λ κs. (T′.lowers (namedLft 1 0 tt κs) .val-is, (uint-tells w64, tt)))
-      (λ κs qs bounds a g are. via 𝓤 _ (fst∗ 𝓤 _ (emp 𝓤)) (steps 𝓤 H A W mem run (κs .0) (qs .0) (a .0) (a .1 .0) (are .0) (are .1 .0 .1) C Λ fm known (LL.lawful (T.the-type (namedLft 1 0 tt κs)) (T′.the-laws (namedLft 1 0 tt κs)) 𝓤 H A W .typed (a .0) _ (are .0) .0)))
+  walk-walks C Λ fm known = walked 𝓤 H A walk.ended stayed (walk.clauses 𝓤 H A mem run) (WpFn 𝓤 H C Λ code.function) (λ κs. (LL.vals (D κs) (L κs), (uint-vals w64, tt))) (λ κs. (LL.tells (D κs) (L κs), (uint-tells w64, tt)))
+      (λ κs qs bounds a g are. via 𝓤 _ (fst∗ 𝓤 _ (emp 𝓤)) (steps 𝓤 H A W mem run (κs .0) (κs .1 .0) (qs .0) (qs .1 .0) (a .0) (a .1 .0) (are .1 .0 .1) C Λ fm known (LL.lawful (D κs) (L κs) 𝓤 H A W .typed (a .0) _ (are .0) .0)))
 
 walk-meets′ : {M : Type 1} (𝓤 : URA M) (H : Heap 𝓤) (A : Atoms 𝓤) (W : Given 𝓤 H A) (mem : Memory → SProp 𝓤) (run : Routine → Fun 𝓤) (𝓣 : Tables 𝓤 H)
     → Triple 𝓤 (𝓣 .C #walk·walk) (Covered 𝓤 H A mem run)
