@@ -1,27 +1,29 @@
--- Grants from a position on: the one there, and those after it; and a grant for writing covers reading.
-use Prim.Native.Nat.{ℕ, _+_, _≤_, _<_}
+-- One grant more than others; and a grant for writing covers reading.
+use Prim.Native.Nat.{ℕ}
 use mathlib.Core.Bool.{Bool, true, false, _&&_, _||_}
-use mathlib.Core.List.{List, [], _∷_, map}
-use mathlib.Core.Path.{_≡_, refl}
-use native.Mathlib.Numerals.{add-one}
+use mathlib.Core.List.{List, [], _∷_, _++_}
+use mathlib.Core.Path.{_≡_, refl, ap, _∙_}
 use lib.Dec.{eqb}
-use lib.ListN.{length, getD, drop, drop-of-length-le}
-use lib.Seq.{drop-cons}
-use Rattle.edge.specs.Grant.{grantOf, covers}
+use Rattle.edge.specs.Grant.{covers}
 use Rattle.edge.specs.declared.Grant.{Grant}
 use Rattle.authority.specs.Authority.{granted}
 
-module _ (owner dom m : ℕ) (w : Bool) (rows : List (List ℕ)) (i : ℕ) where
-  pub granted-at :
-      i < length rows →
-      granted (map grantOf (drop i rows)) owner dom m w
-      ≡ (covers owner dom m w (grantOf (getD rows i [])) || granted (map grantOf (drop (i + 1) rows)) owner dom m w)
-  unfolding granted
-  granted-at inside = rw (add-one, drop-cons rows i [] inside)
+or-false : (a : Bool) → (a || false) ≡ a
+or-false true = refl
+or-false false = refl
 
-  pub granted-end : length rows ≤ i → granted (map grantOf (drop i rows)) owner dom m w ≡ false
-  unfolding granted
-  granted-end outside = rw (drop-of-length-le rows outside)
+pub or-assoc : (a b c : Bool) → (a || (b || c)) ≡ ((a || b) || c)
+or-assoc true b c = refl
+or-assoc false b c = refl
+
+pub granted-more :
+    (gs : List Grant) (g : Grant) (owner dom m : ℕ) (w : Bool) →
+    granted (gs ++ g ∷ []) owner dom m w ≡ (granted gs owner dom m w || covers owner dom m w g)
+unfolding granted
+granted-more [] g owner dom m w = or-false (covers owner dom m w g)
+granted-more (x ∷ gs) g owner dom m w =
+    ap (λ b. covers owner dom m w x || b) (granted-more gs g owner dom m w)
+    ∙ or-assoc (covers owner dom m w x) (granted gs owner dom m w) (covers owner dom m w g)
 
 -- a grant that covers writing covers reading
 weaker : (a b c w : Bool) → (a && b && c && (false || w)) ≡ true → (a && b && c && (true || w)) ≡ true

@@ -1,2 +1,4 @@
 pub mod Grants
+pub mod Noted
 pub mod Owned
+pub mod Widest

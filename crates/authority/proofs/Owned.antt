@@ -1,24 +1,27 @@
--- Rows 23 and 24 of an entry whose frame has an owner, by who it is and what is granted.
-use Prim.Native.Nat.{ℕ}
+-- Rows 23 and 24 of an entry, by the widest that its frame may have.
+use Prim.Native.Nat.{ℕ, _≤_, _<_}
 use mathlib.Core.Bool.{Bool, true, false, not, _&&_, _||_, false≢true}
-use mathlib.Core.List.{List, [], _++_}
+use mathlib.Core.List.{List, [], _∷_, _++_}
+use mathlib.Core.Logic.{_≢_}
 use mathlib.Core.Path.{_≡_, refl, sym, ap, _∙_}
+use native.Mathlib.Omega.{arith}
 use lib.Dec.{eqb}
-use Rattle.edge.specs.Edge.{ownedBy, owns}
 use Rattle.edge.specs.declared.Grant.{Grant}
+use Rattle.fields.proofs.Named.{has-code}
 use Rattle.p2m.specs.Frame.{ownerOf}
 use Rattle.p2m.specs.declared.Owner.{Owner}
 use Rattle.p2m.specs.declared.Owner.the-variants.{Domain, Nobody}
-use Rattle.perm.specs.Perm.{permWrites, entryNamed}
+use Rattle.perm.specs.Perm.{permCode, permWrites, entryNamed}
 use Rattle.perm.specs.declared.Entry.the-variants.{Mapped, Unmapped}
 use Rattle.perm.specs.declared.Entry.{Entry}
+use Rattle.perm.specs.declared.Perm.the-variants.{Ro, Rw, Rx}
 use Rattle.perm.specs.declared.Perm.{Perm}
-use Rattle.refusal.proofs.None.{accept}
 use Rattle.refusal.specs.Outcome.{rowOf, refuse}
-use Rattle.refusal.specs.Table.{accepted, refused, first}
+use Rattle.refusal.specs.Table.{refused, first}
 use Rattle.refusal.specs.declared.Refusal.the-variants.{UnauthorizedMapping, WriteEscalation}
 use Rattle.refusal.specs.declared.Refusal.{Refusal}
 use Rattle.authority.specs.Authority.{granted, reaches, ownerRows, reachRows}
+use Rattle.authority.specs.Widest.{widest, widestAt, asked}
 use Rattle.authority.proofs.Grants.{reading}
 
 -- w for writing, r and x what may be reached for reading and for writing: what may be reached is not refused
@@ -48,37 +51,34 @@ module _ (grants : List Grant) (dom m : ℕ) (p : Perm) where
       (λ w. sym (ap (λ x. reaches grants dom m x (Domain o)) w) ∙ r)
   allowed Nobody r = absurd (false≢true r)
 
-  pub nobody : first (ownerRows grants dom m (Mapped p) Nobody) ≡ refused (rowOf (UnauthorizedMapping dom m Nobody p))
+  pub denied :
+      (o : Owner) → reaches grants dom m false o ≡ false →
+      first (ownerRows grants dom m (Mapped p) o) ≡ refused (rowOf (UnauthorizedMapping dom m o p))
   unfolding first ownerRows
-  nobody = refl
+  denied o r = rw r
 
-  module _ (o : ℕ) where
-    pub own : eqb o dom ≡ true → first (ownerRows grants dom m (Mapped p) (Domain o)) ≡ accepted
-    own e = accept _ (allowed (Domain o) (rw e))
+  pub escalated :
+      (o : ℕ) → permWrites p ≡ true → reaches grants dom m false (Domain o) ≡ true →
+      reaches grants dom m true (Domain o) ≡ false →
+      first (ownerRows grants dom m (Mapped p) (Domain o)) ≡ refused (rowOf (WriteEscalation dom m o))
+  unfolding first ownerRows
+  escalated o w r x = rw (w, r, x)
 
-    module _ (foreign : eqb o dom ≡ false) where
-      pub lent :
-          granted grants o dom m (permWrites p) ≡ true → first (ownerRows grants dom m (Mapped p) (Domain o)) ≡ accepted
-      lent g = accept _ (allowed (Domain o) (rw (foreign, g)))
+-- a mapped entry asks for writing or for reading
 
-      pub denied :
-          granted grants o dom m false ≡ false →
-          first (ownerRows grants dom m (Mapped p) (Domain o)) ≡ refused (rowOf (UnauthorizedMapping dom m (Domain o) p))
-      unfolding first ownerRows
-      denied g = rw (foreign, g)
+code-of : (byte : ℕ) (p : Perm) → entryNamed byte ≡ Mapped p → byte ≡ permCode p
+code-of byte p e = has-code permCode (Ro ∷ Rw ∷ Rx ∷ []) Mapped Unmapped byte p one none e
+  where
+    one : (x y : Perm) → Mapped x ≡ Mapped y → x ≡ y
+    one x y e = cc
 
-      pub escalated :
-          granted grants o dom m (permWrites p) ≡ false →
-          granted grants o dom m false ≡ true →
-          first (ownerRows grants dom m (Mapped p) (Domain o)) ≡ refused (rowOf (WriteEscalation dom m o))
-      unfolding first ownerRows
-      escalated f g = go (permWrites p) refl f
-        where
-          go :
-              (w : Bool) → permWrites p ≡ w → granted grants o dom m w ≡ false →
-              first (ownerRows grants dom m (Mapped p) (Domain o)) ≡ refused (rowOf (WriteEscalation dom m o))
-          go true t f = rw (foreign, t, f, g)
-          go false t f = absurd (false≢true (sym f ∙ g))
+    none : Unmapped ≡ Mapped p → ⊥
+    none e = let z : _≡_ {A = ℕ} 0 1 = cc in omega arith
+
+asked-by : (p : Perm) → asked (permCode p) ≡ widest true (permWrites p)
+asked-by Ro = refl
+asked-by Rw = refl
+asked-by Rx = refl
 
 -- the rows of a frame are those of its entry and its owner
 
@@ -93,22 +93,74 @@ module _ (frames : List (List ℕ)) (grants : List Grant) (dom m byte : ℕ) whe
     unfolding reachRows
     of-owner o e = rw (mapped, e)
 
-  pub own-frame : owns frames dom m ≡ true → first (reachRows frames grants dom m byte) ≡ accepted
-  unfolding owns
-  own-frame t = by-entry (entryNamed byte) refl
+    asks : asked byte ≡ widest true (permWrites p)
+    asks = ap asked (code-of byte p mapped) ∙ asked-by p
+
+    pub nobody :
+        ownerOf frames m ≡ Nobody →
+        first (reachRows frames grants dom m byte) ≡ refused (rowOf (UnauthorizedMapping dom m Nobody p))
+    nobody e = ap first (of-owner Nobody e) ∙ denied grants dom m p Nobody refl
+
+    module _ (o : ℕ) (owner : ownerOf frames m ≡ Domain o) where
+      pub nothing :
+          widestAt frames grants dom m ≡ 0 →
+          first (reachRows frames grants dom m byte) ≡ refused (rowOf (UnauthorizedMapping dom m (Domain o) p))
+      unfolding widestAt
+      nothing e =
+          ap first (of-owner (Domain o) owner)
+          ∙ denied grants dom m p (Domain o) (go (reaches grants dom m false (Domain o)) (reaches grants dom m true (Domain o)) (rw owner at e))
+        where
+          go : (r x : Bool) → widest r x ≡ 0 → r ≡ false
+          go false x e = refl
+          go true true e = absurd (omega (arith, e))
+          go true false e = absurd (omega (arith, e))
+
+      pub reading-alone :
+          widestAt frames grants dom m ≢ 0 → widestAt frames grants dom m < asked byte →
+          first (reachRows frames grants dom m byte) ≡ refused (rowOf (WriteEscalation dom m o))
+      unfolding widestAt
+      reading-alone some less =
+          ap first (of-owner (Domain o) owner)
+          ∙ go (permWrites p) refl (reaches grants dom m false (Domain o)) refl (reaches grants dom m true (Domain o)) refl
+          (rw owner at some) (rw (owner, asks) at less)
+        where
+          go :
+              (w : Bool) → permWrites p ≡ w →
+              (r : Bool) → reaches grants dom m false (Domain o) ≡ r →
+              (x : Bool) → reaches grants dom m true (Domain o) ≡ x →
+              widest r x ≢ 0 → widest r x < widest true w →
+              first (ownerRows grants dom m (Mapped p) (Domain o)) ≡ refused (rowOf (WriteEscalation dom m o))
+          go true a true b false c some less = escalated grants dom m p o a b c
+          go w a false b false c some less = absurd (some refl)
+          go true a r b true c some less = absurd (omega (arith, less))
+          go false a r b true c some less = absurd (omega (arith, less))
+          go false a true b false c some less = absurd (omega (arith, less))
+
+  -- an entry that is no wider is let by
+  pub within : asked byte ≤ widestAt frames grants dom m → reachRows frames grants dom m byte ≡ []
+  unfolding widestAt
+  within enough = by-entry (entryNamed byte) refl
     where
-      by-owner :
-          (p : Perm) (o : Owner) → entryNamed byte ≡ Mapped p → ownerOf frames m ≡ o → ownedBy dom o ≡ true →
-          first (reachRows frames grants dom m byte) ≡ accepted
-      by-owner p (Domain o) mapped e t = ap first (of-owner p mapped (Domain o) e) ∙ own grants dom m p o t
-      by-owner p Nobody mapped e t = absurd (false≢true t)
+      writable : (r x : Bool) → widest true true ≤ widest r x → x ≡ true
+      writable r true h = refl
+      writable true false h = absurd (omega (arith, h))
+      writable false false h = absurd (omega (arith, h))
 
-      by-entry : (e : Entry) → entryNamed byte ≡ e → first (reachRows frames grants dom m byte) ≡ accepted
-      by-entry (Mapped p) e = by-owner p (ownerOf frames m) e refl t
-      by-entry Unmapped e = accept _ (unmapped e)
+      readable : (r x : Bool) → (x ≡ true → r ≡ true) → widest true false ≤ widest r x → r ≡ true
+      readable true x f h = refl
+      readable false true f h = f refl
+      readable false false f h = absurd (omega (arith, h))
 
-pub foreign-frame :
-    (frames : List (List ℕ)) (dom m o : ℕ) →
-    owns frames dom m ≡ false → ownerOf frames m ≡ Domain o → eqb o dom ≡ false
-unfolding owns
-foreign-frame frames dom m o t e = sym (ap (ownedBy dom) e) ∙ t
+      reached :
+          (p : Perm) (w : Bool) (o : Owner) →
+          widest true w ≤ widest (reaches grants dom m false o) (reaches grants dom m true o) →
+          reaches grants dom m w o ≡ true
+      reached p true o h = writable (reaches grants dom m false o) (reaches grants dom m true o) h
+      reached p false o h =
+          readable (reaches grants dom m false o) (reaches grants dom m true o) (reads grants dom m p true o) h
+
+      by-entry : (e : Entry) → entryNamed byte ≡ e → reachRows frames grants dom m byte ≡ []
+      by-entry (Mapped p) e =
+          let o = ownerOf frames m in
+          of-owner p e o refl ∙ allowed grants dom m p o (reached p (permWrites p) o (rw (asks p e) at enough))
+      by-entry Unmapped e = unmapped e

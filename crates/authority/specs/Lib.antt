@@ -1,1 +1,2 @@
 pub mod Authority
+pub mod Widest

@@ -1,17 +1,22 @@
 // Whether a domain may reach every frame that a map maps (hv-s2's check.rs).
 use edge::Grant;
+use layout::Layout;
 use p2m::Owner;
 use perm::Entry;
 use perm::Perm;
 use refusal::Refusal;
 use refusal::Verdict;
-ghost use Prim.Native.Nat.{_≤_};
-ghost use mathlib.Core.List.{map};
+ghost use Prim.Native.Nat.{ℕ, _≤_, _<_};
+ghost use mathlib.Core.Bool.{true};
+ghost use mathlib.Core.List.{List, [], map};
 ghost use mathlib.Core.Path.{_≡_};
-ghost use lib.ListN.{length};
-ghost use Rattle.authority.specs.Authority.{granted, reachRows, authorityRows};
+ghost use lib.ListN.{length, getD};
+ghost use Rattle.authority.specs.Authority.{reachRows, authorityRows};
+ghost use Rattle.authority.specs.Widest.{widestAt, widestBy, asked};
 ghost use Rattle.edge.specs.Grant.{grantOf};
+ghost use Rattle.edge.specs.declared.Grant.{Grant};
 ghost use Rattle.layout.specs.Size.{entries};
+ghost use Rattle.lent.specs.Larger.{larger};
 ghost use Rattle.refusal.specs.Outcome.{outcomeOf, rowOf};
 ghost use Rattle.refusal.specs.Table.{refused, first, eachFrom};
 ghost use Rattle.refusal.specs.declared.Refusal.the-variants.{UnauthorizedMapping};
@@ -29,16 +34,24 @@ pub fn check_authorized_with(
     let Verdict::Accepted = readable else {
         return readable;
     };
+    // A map that maps nothing needs no frame looked up.
+    if lent::largest(leaves) == 0 {
+        return Verdict::Accepted;
+    }
     all_reached(dom, leaves, frames, grants)
 }
 
-// Rows 23 and 24, of every entry.
+// Rows 23 and 24, of every entry. The pass that finds no frame has no branch to take, and an authorized map needs no other.
 fn all_reached(dom: u16, leaves: &[u8], frames: &[[u32; 2]], grants: &[[u32; 4]]) -> Verdict
     requires { ⌜ length (now leaves) ≤ entries ⌝ }
     ensures { λ r. ⌜ outcomeOf r ≡ first (eachFrom (reachRows (now (frames .entry)) (map grantOf (now (grants .entry))) dom) 0 (now (leaves .entry))) ⌝ }
 {
+    let widest = widest_entries(dom, leaves.len(), frames, grants);
+    if all_within(leaves, &widest) {
+        return Verdict::Accepted;
+    }
     for m in 0..leaves.len() {
-        let verdict = reached(dom, m as u32, leaves[m], frames, grants);
+        let verdict = reached(dom, m as u32, leaves[m], widest[m], frames);
         let Verdict::Accepted = verdict else {
             return verdict;
         };
@@ -46,15 +59,11 @@ fn all_reached(dom: u16, leaves: &[u8], frames: &[[u32; 2]], grants: &[[u32; 4]]
     Verdict::Accepted
 }
 
-// Rows 23 and 24, of one entry. What nobody owns nobody can grant.
-fn reached(dom: u16, mfn: u32, entry: u8, frames: &[[u32; 2]], grants: &[[u32; 4]]) -> Verdict
-    ensures { λ r. ⌜ outcomeOf r ≡ first (reachRows (now (frames .entry)) (map grantOf (now (grants .entry))) dom mfn entry) ⌝ }
+// Rows 23 and 24, of one entry, by the widest that its frame may have.
+fn reached(dom: u16, mfn: u32, entry: u8, widest: u8, frames: &[[u32; 2]]) -> Verdict
+    ensures { λ r. ⌜ ((grants : List Grant) → widest ≡ widestAt (now (frames .entry)) grants dom mfn → outcomeOf r ≡ first (reachRows (now (frames .entry)) grants dom mfn entry)) ⌝ }
 {
-    // Most entries are 0 or of the domain's own frames: the permission of those need not be read.
-    if entry == 0 {
-        return Verdict::Accepted;
-    }
-    if edge::owns(frames, mfn, dom) {
+    if asked(entry) <= widest {
         return Verdict::Accepted;
     }
     let Entry::Mapped(perm) = Entry::of(entry) else {
@@ -64,18 +73,15 @@ fn reached(dom: u16, mfn: u32, entry: u8, frames: &[[u32; 2]], grants: &[[u32; 4
     let Owner::Domain(owner) = found else {
         return unauthorized(dom, mfn, found, perm);
     };
-    if granted(grants, owner, dom, mfn, perm.writable()) {
-        return Verdict::Accepted;
+    if widest == 0 {
+        return unauthorized(dom, mfn, found, perm);
     }
     // Where reading is granted, the entry was for writing.
-    if granted(grants, owner, dom, mfn, false) {
-        return Verdict::Refused(Refusal::WriteEscalation {
-            dom: dom as u64,
-            mfn: mfn as u64,
-            owner: owner as u64,
-        });
-    }
-    unauthorized(dom, mfn, found, perm)
+    Verdict::Refused(Refusal::WriteEscalation {
+        dom: dom as u64,
+        mfn: mfn as u64,
+        owner: owner as u64,
+    })
 }
 
 fn unauthorized(dom: u16, mfn: u32, owner: Owner, perm: Perm) -> Verdict
@@ -89,14 +95,92 @@ fn unauthorized(dom: u16, mfn: u32, owner: Owner, perm: Perm) -> Verdict
     })
 }
 
-// Whether the owner grants the domain to read its frame, or also to write it.
-fn granted(grants: &[[u32; 4]], owner: u16, dom: u16, mfn: u32, writable: bool) -> bool
-    ensures { λ r. ⌜ r ≡ granted (map grantOf (now (grants .entry))) owner dom mfn writable ⌝ }
+fn all_within(leaves: &[u8], widest: &[u8]) -> bool
+    requires { ⌜ length (now leaves) ≤ length (now widest) ⌝ }
+    ensures { λ r. ⌜ (r ≡ true → (m : ℕ) → m < length (now (leaves .entry)) → asked (getD (now (leaves .entry)) m 0) ≤ getD (now (widest .entry)) m 0) ⌝ }
 {
-    for i in 0..grants.len() {
-        if Grant::of(grants[i]).covers(owner, dom, mfn, writable) {
-            return true;
+    let mut within = true;
+    for m in 0..leaves.len() {
+        if widest[m] < asked(leaves[m]) {
+            within = false;
         }
     }
-    false
+    within
+}
+
+// Execution is granted with reading.
+fn asked(entry: u8) -> u8
+    ensures { λ r. ⌜ r ≡ asked entry ⌝ }
+{
+    if entry == Perm::Rx.code() {
+        return Perm::Ro.code();
+    }
+    entry
+}
+
+// The widest entry of each frame of a map, in one pass over the grants, where the Rust goes through them once for each frame.
+fn widest_entries(
+    dom: u16,
+    count: usize,
+    frames: &[[u32; 2]],
+    grants: &[[u32; 4]],
+) -> [u8; Layout::ENTRIES]
+    requires { ⌜ count ≤ entries ⌝ }
+    ensures { λ r. ⌜ ((m : ℕ) → m < count → getD r m 0 ≡ widestAt (now (frames .entry)) (map grantOf (now (grants .entry))) dom m) ⌝ }
+{
+    let mut widest = own_entries(dom, count, frames);
+    for i in 0..grants.len() {
+        note(&mut widest, Grant::of(grants[i]), dom, frames);
+    }
+    widest
+}
+
+// Before any grant.
+fn own_entries(dom: u16, count: usize, frames: &[[u32; 2]]) -> [u8; Layout::ENTRIES]
+    requires { ⌜ count ≤ entries ⌝ }
+    ensures { λ r. ⌜ ((m : ℕ) → m < count → getD r m 0 ≡ widestAt (now (frames .entry)) [] dom m) ⌝ }
+{
+    let mut widest = [0u8; Layout::ENTRIES];
+    for m in 0..count {
+        widest[m] = own_entry(dom, m as u32, frames);
+    }
+    widest
+}
+
+fn own_entry(dom: u16, mfn: u32, frames: &[[u32; 2]]) -> u8
+    ensures { λ r. ⌜ r ≡ widestAt (now (frames .entry)) [] dom mfn ⌝ }
+{
+    if edge::owns(frames, mfn, dom) {
+        return Perm::Rw.code();
+    }
+    0
+}
+
+// After one grant more, which takes nothing back.
+fn note(widest: &mut [u8], g: Grant, dom: u16, frames: &[[u32; 2]])
+    ensures { λ _. ⌜ ((m : ℕ) → m < length (now (widest .entry)) → getD (now (widest .exit)) m 0 ≡ larger (getD (now (widest .entry)) m 0) (widestBy (now (frames .entry)) dom m g)) ⌝ }
+{
+    let frame = g.frame as usize;
+    if frame < widest.len() {
+        let granted = granted_entry(g, dom, frames);
+        if widest[frame] < granted {
+            widest[frame] = granted;
+        }
+    }
+}
+
+// The widest entry of a grant's own frame by that grant alone. What nobody owns nobody can grant.
+fn granted_entry(g: Grant, dom: u16, frames: &[[u32; 2]]) -> u8
+    ensures { λ r. ⌜ r ≡ widestBy (now (frames .entry)) dom (g .frame) g ⌝ }
+{
+    let Owner::Domain(owner) = p2m::owner_of(frames, g.frame) else {
+        return 0;
+    };
+    if g.covers(owner, dom, g.frame, true) {
+        return Perm::Rw.code();
+    }
+    if g.covers(owner, dom, g.frame, false) {
+        return Perm::Ro.code();
+    }
+    0
 }

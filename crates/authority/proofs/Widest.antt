@@ -1,0 +1,80 @@
+-- The widest entry of a frame: Rw of an own one, with one grant more the wider of two, and none by a grant of another frame.
+use Prim.Native.Nat.{ℕ}
+use mathlib.Core.Bool.{Bool, true, false, _&&_, _||_}
+use mathlib.Core.List.{List, [], _∷_, _++_}
+use mathlib.Core.Logic.{_≢_}
+use mathlib.Core.Path.{_≡_, refl, sym, ap, _∙_}
+use lib.Dec.{eqb}
+use borrow.Author.Tests.{ne-eqb}
+use Rattle.edge.specs.Edge.{ownedBy, owns}
+use Rattle.edge.specs.Grant.{covers}
+use Rattle.edge.specs.declared.Grant.{Grant}
+use Rattle.fields.specs.Named.{pick}
+use Rattle.lent.specs.Larger.{larger}
+use Rattle.p2m.specs.Frame.{ownerOf}
+use Rattle.p2m.specs.declared.Owner.{Owner}
+use Rattle.p2m.specs.declared.Owner.the-variants.{Domain, Nobody}
+use Rattle.perm.specs.Perm.{permCode}
+use Rattle.perm.specs.declared.Perm.the-variants.{Rw}
+use Rattle.authority.specs.Authority.{granted, reaches}
+use Rattle.authority.specs.Widest.{widest, widestAt, covered, widestBy}
+use Rattle.authority.proofs.Grants.{or-assoc, granted-more}
+
+-- what one of two allows is the wider of what each does
+wider : (r x c d : Bool) → widest (r || c) (x || d) ≡ larger (widest r x) (widest c d)
+wider true true true true = refl
+wider true true true false = refl
+wider true true false true = refl
+wider true true false false = refl
+wider true false true true = refl
+wider true false true false = refl
+wider true false false true = refl
+wider true false false false = refl
+wider false true true true = refl
+wider false true true false = refl
+wider false true false true = refl
+wider false true false false = refl
+wider false false true true = refl
+wider false false true false = refl
+wider false false false true = refl
+wider false false false false = refl
+
+module _ (frames : List (List ℕ)) (dom m : ℕ) where
+  pub own : widestAt frames [] dom m ≡ pick (owns frames dom m) (permCode Rw) 0
+  unfolding widestAt owns granted
+  own = go (ownerOf frames m)
+    where
+      by-test : (b : Bool) → widest (b || false) (b || false) ≡ pick b (permCode Rw) 0
+      by-test true = refl
+      by-test false = refl
+
+      go : (o : Owner) → widest (reaches [] dom m false o) (reaches [] dom m true o) ≡ pick (ownedBy dom o) (permCode Rw) 0
+      go (Domain o) = by-test (eqb o dom)
+      go Nobody = refl
+
+  module _ (g : Grant) where
+    pub more :
+        (gs : List Grant) →
+        widestAt frames (gs ++ g ∷ []) dom m ≡ larger (widestAt frames gs dom m) (widestBy frames dom m g)
+    unfolding widestAt widestBy
+    more gs =
+        let o = ownerOf frames m in
+        ap (λ r. widest r (reaches (gs ++ g ∷ []) dom m true o)) (reached-more false o)
+        ∙ ap (λ x. widest (reaches gs dom m false o || covered g dom m false o) x) (reached-more true o)
+        ∙ wider (reaches gs dom m false o) (reaches gs dom m true o) (covered g dom m false o) (covered g dom m true o)
+      where
+        reached-more :
+            (w : Bool) (o : Owner) →
+            reaches (gs ++ g ∷ []) dom m w o ≡ (reaches gs dom m w o || covered g dom m w o)
+        reached-more w (Domain o) =
+            ap (λ b. eqb o dom || b) (granted-more gs g o dom m w)
+            ∙ or-assoc (eqb o dom) (granted gs o dom m w) (covers o dom m w g)
+        reached-more w Nobody = refl
+
+    pub elsewhere : g .frame ≢ m → widestBy frames dom m g ≡ 0
+    unfolding widestBy covers
+    elsewhere other = go (ownerOf frames m)
+      where
+        go : (o : Owner) → widest (covered g dom m false o) (covered g dom m true o) ≡ 0
+        go (Domain o) = rw (ne-eqb (g .frame) m other)
+        go Nobody = refl
