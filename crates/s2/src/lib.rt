@@ -100,7 +100,7 @@ pub extern "C" fn s2_walk(
 ) -> u32
     ensures { λ r. ⌜ (r ∷ now (values .exit)) ≡ walkAnswer (now (arena .entry)) (now (tables .entry)) ipa ⌝ }
 {
-    match walker::walk(arena, *tables, ipa) {
+    match walker::walk(arena, tables, ipa) {
         Walked::Told(reached) => told(reached.words(), values),
         Walked::Refused(refusal) => answer(Verdict::Refused(refusal), values),
     }
