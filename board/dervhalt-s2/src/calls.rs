@@ -5,11 +5,14 @@
 //! slice is as long as it says, and what a call may write is borrowed mutably, so that it overlaps
 //! nothing else that is lent.
 
+use core::ptr;
+
 use crate::answer::Answer;
+use crate::arena::{Arena, ARENA_LEN};
 use crate::layout::{Numbers, TableNumbers};
 use crate::maps::Maps;
 use crate::names::Span;
-use crate::records::{DomId, Edge, EdgeRow, Edges, Frame, Grant};
+use crate::records::{DomId, Edge, EdgeRow, Edges, Frame, GrantRow};
 
 /// Declares calls that are lent an arena and two maps before the layout.
 macro_rules! declare_with_arena {
@@ -103,7 +106,7 @@ extern "C" {
         map_len: usize,
         frames: *const Frame,
         frame_count: usize,
-        grants: *const Grant,
+        grants: *const GrantRow,
         grant_count: usize,
         values: &mut [u64; 8],
     ) -> u32;
@@ -215,7 +218,7 @@ pub fn exact(dom: DomId, map: &[u8], span: Span, edges: Edges<'_>, frames: &[Fra
     })
 }
 
-pub fn authorized(dom: DomId, map: &[u8], frames: &[Frame], grants: &[Grant]) -> Answer {
+pub fn authorized(dom: DomId, map: &[u8], frames: &[Frame], grants: &[GrantRow]) -> Answer {
     // SAFETY: the map and each list are as long as is said, and eight values are written.
     answer(|values| unsafe {
         s2_authorized(
@@ -229,6 +232,17 @@ pub fn authorized(dom: DomId, map: &[u8], frames: &[Frame], grants: &[Grant]) ->
             values,
         )
     })
+}
+
+// An arena is its words and nothing else.
+const _: () = assert!(size_of::<Arena>() == size_of::<[u64; ARENA_LEN]>());
+
+/// Words as an arena, if they are as many and begin where one can.
+pub fn arena_over(words: &mut [u64]) -> Option<&mut Arena> {
+    let words: &mut [u64; ARENA_LEN] = words.try_into().ok()?;
+    let arena = ptr::from_mut(words).cast::<Arena>();
+    // SAFETY: it is aligned, its bytes are those of the words, and the one borrow becomes the other.
+    arena.is_aligned().then(|| unsafe { &mut *arena })
 }
 
 fn answer(call: impl FnOnce(&mut [u64; 8]) -> u32) -> Answer {

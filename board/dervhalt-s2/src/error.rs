@@ -1,18 +1,18 @@
-//! Why tables are not made.
+//! Why a step on the way to tables does not go through.
 
 use core::fmt::{self, Display, Formatter};
 
 use crate::names::{Table, Window};
 use crate::refusal::Refusal;
 
-/// Why an encoding or an update does not begin.
+/// A row's refusal, or one of the two things that this crate asks beyond document 01's rows.
 #[derive(Clone, Copy, PartialEq, Eq, Debug)]
 pub enum Error {
     /// A row of document 01's table refuses.
     Refused(Refusal),
     /// A table lies in the output of a window, so that the guest could be mapped its own tables.
-    /// The library itself does not refuse such a layout, since document 01 has no row for it; this
-    /// crate does.
+    /// The library itself does not refuse such a layout, since document 01 has no row for it;
+    /// [`Layout::checked`](crate::Layout::checked) does.
     InReach {
         /// The lowest such table.
         table: Table,
@@ -20,6 +20,13 @@ pub enum Error {
         pa: u64,
         /// The lowest window that it lies in.
         window: Window,
+    },
+    /// Memory that [`Arena::over`](crate::Arena::over) makes no arena of.
+    NoArena {
+        /// Its words.
+        len: usize,
+        /// Where they begin.
+        address: usize,
     },
 }
 
@@ -45,6 +52,10 @@ impl Display for Error {
                      the guest could {access} its own tables"
                 )
             }
+            Error::NoArena { len, address } => write!(
+                f,
+                "{len} words at {address:#x} are no arena, which has 3,072 at a multiple of 4,096"
+            ),
         }
     }
 }

@@ -167,7 +167,7 @@ fn with_maps<T>(ask: impl FnOnce(Maps<'_>) -> T) -> T {
     };
     let (mut base, mut sup) = ([0; 4], [0; 4]);
     let edges = [EDGES[0], EDGES[1], writable];
-    let maps = leaf_map_from_edges(&edges[..], &FRAMES, DOM, &mut base, &mut sup);
+    let maps = leaf_map_from_edges(&edges, &FRAMES, DOM, &mut base, &mut sup);
     ask(maps.expect("the edges are accepted"))
 }
 

@@ -50,6 +50,11 @@ pub struct Layout {
     pub sup_frames: u64,
 }
 
+/// A layout that rows 4 to 12 let by and that has no table in the output of a window, as
+/// [`Layout::checked`] has found it: what tables are made of.
+#[derive(Clone, Copy, PartialEq, Eq, Debug)]
+pub struct CheckedLayout(Layout);
+
 /// The addresses of the six tables: all that a walk needs of a layout.
 #[derive(Clone, Copy, PartialEq, Eq, Debug)]
 pub struct Tables {
@@ -77,13 +82,25 @@ pub struct Exposed {
 }
 
 impl Layout {
-    /// Whether the layout can be encoded: rows 4 to 12.
+    /// Whether rows 4 to 12 let the layout by.
     pub fn validate(&self) -> Result<(), Refusal> {
         calls::validate(&self.numbers()).accepted()
     }
 
-    /// Which table lies in the output of a window, if any: rows 4 to 12. The guest of such a layout
-    /// can be mapped its own tables.
+    /// The layout as what tables are made of: rows 4 to 12, then no table in the output of a
+    /// window. The second is what this crate asks beyond document 01's rows: a guest that is mapped
+    /// a table maps itself anything.
+    pub fn checked(&self) -> Result<CheckedLayout, Error> {
+        match self.exposed_table()? {
+            None => Ok(CheckedLayout(*self)),
+            Some(Exposed { table, window }) => {
+                let pa = self.tables().pa(table);
+                Err(Error::InReach { table, pa, window })
+            }
+        }
+    }
+
+    /// Which table lies in the output of a window, if any: rows 4 to 12.
     pub fn exposed_table(&self) -> Result<Option<Exposed>, Refusal> {
         calls::exposed(&self.numbers()).told()
     }
@@ -97,17 +114,6 @@ impl Layout {
             l3_data_pa: self.l3_data_pa,
             l2_sup_pa: self.l2_sup_pa,
             l2_dev_pa: self.l2_dev_pa,
-        }
-    }
-
-    /// Refuses what no row refuses: a table in the output of a window.
-    pub(crate) fn keeps_tables_apart(&self) -> Result<(), Error> {
-        match self.exposed_table()? {
-            None => Ok(()),
-            Some(Exposed { table, window }) => {
-                let pa = self.tables().pa(table);
-                Err(Error::InReach { table, pa, window })
-            }
         }
     }
 
@@ -132,6 +138,18 @@ impl Layout {
             self.sup_wx_exempt.into(),
             self.sup_frames,
         ]
+    }
+}
+
+impl CheckedLayout {
+    /// The layout.
+    pub fn layout(&self) -> &Layout {
+        &self.0
+    }
+
+    /// The addresses of its tables.
+    pub fn tables(&self) -> Tables {
+        self.0.tables()
     }
 }
 

@@ -34,12 +34,11 @@
 //! ];
 //! let edge = Edge { parent: 0, slot: 0, child: 1, writable: true, leaf: true, execute: false };
 //! let (mut base, mut sup) = ([0; MAP_LEN], [0; 4]);
-//! let maps = leaf_map_from_edges(&[edge][..], &frames, 3, &mut base, &mut sup)?;
-//! check_authorized_with(3, maps.base(), &frames, &[])?;
-//! check_authorized_with(3, maps.sup(), &frames, &[])?;
+//! let maps = leaf_map_from_edges(&[edge], &frames, 3, &mut base, &mut sup)?;
 //!
+//! // Tables are made of maps that the owners allow, and of a layout that hands out no table.
 //! let mut arena = Arena::ZEROS;
-//! encode(&mut arena, maps, &layout)?;
+//! encode(&mut arena, maps.authorized(&[])?, &layout.checked()?)?;
 //! let reach = Reach { pa: 0x5000_1234, access: Access::Rw, xn: true };
 //! assert_eq!(walk(&arena, &layout.tables(), 0x8000_1234), Some(reach));
 //! assert_eq!(walk(&arena, &layout.tables(), 0x8000_2000), None);
@@ -47,7 +46,7 @@
 //! // A guest that is given its own tables could map itself anything.
 //! let handed_out = Layout { data_pa_base: 0x4000_0000, ..layout };
 //! assert_eq!(
-//!     encode(&mut arena, maps, &handed_out).unwrap_err().to_string(),
+//!     handed_out.checked().unwrap_err().to_string(),
 //!     "table l1 at 0x40000000 lies in the output of the data window: \
 //!      the guest could write its own tables",
 //! );
@@ -101,11 +100,13 @@ mod scene;
 
 pub use arena::{encode, verify_encoding, walk, Arena, ARENA_LEN};
 pub use error::Error;
-pub use layout::{Exposed, Layout, Tables};
+pub use layout::{CheckedLayout, Exposed, Layout, Tables};
 pub use leaf::{Decoded, Reach};
-pub use maps::{check_authorized_with, check_exact, leaf_map_from_edges, Maps, MAP_LEN};
+pub use maps::{
+    check_authorized_with, check_exact, leaf_map_from_edges, AuthorizedMaps, Maps, MAP_LEN,
+};
 pub use names::{Access, Check, Perm, Span, Table, Window};
-pub use records::{DomId, Edge, EdgeRow, Edges, Frame, Grant, Mfn, PageType, PtLevel};
+pub use records::{DomId, Edge, EdgeRow, Edges, Frame, Grant, GrantRow, Mfn, PageType, PtLevel};
 pub use refusal::Refusal;
 pub use update::{Progress, Update, HALF_WAY, STEPS};
 

@@ -41,16 +41,28 @@ pub enum Edges<'a> {
     Rows(&'a [EdgeRow]),
 }
 
-impl<'a> From<&'a [Edge]> for Edges<'a> {
-    fn from(edges: &'a [Edge]) -> Edges<'a> {
-        Edges::Records(edges)
-    }
+/// Edges from a slice and from an array of one form.
+macro_rules! edges_from {
+    ($($edge:ty => $form:ident;)*) => {
+        $(
+            impl<'a> From<&'a [$edge]> for Edges<'a> {
+                fn from(edges: &'a [$edge]) -> Edges<'a> {
+                    Edges::$form(edges)
+                }
+            }
+
+            impl<'a, const N: usize> From<&'a [$edge; N]> for Edges<'a> {
+                fn from(edges: &'a [$edge; N]) -> Edges<'a> {
+                    Edges::$form(edges)
+                }
+            }
+        )*
+    };
 }
 
-impl<'a> From<&'a [EdgeRow]> for Edges<'a> {
-    fn from(edges: &'a [EdgeRow]) -> Edges<'a> {
-        Edges::Rows(edges)
-    }
+edges_from! {
+    Edge => Records;
+    EdgeRow => Rows;
 }
 
 /// The level of a page table in the model of frames: L1 is the lowest. A leaf under L1 is a base
@@ -109,24 +121,40 @@ impl Frame {
     }
 }
 
-/// A grant: `grantor` lets `grantee` reach its frame. One for writing covers reading.
-#[repr(C)]
+/// A grant: `grantor` lets `grantee` reach a frame. The calls are lent its [`row`](Grant::row).
+///
+/// ```
+/// use dervhalt_s2::{Grant, GrantRow};
+///
+/// const GRANTS: [GrantRow; 1] =
+///     [Grant { grantor: 5, grantee: 3, frame: 1, writable: true }.row()];
+/// ```
 #[derive(Clone, Copy, PartialEq, Eq, Debug)]
 pub struct Grant {
-    grantor: u32,
-    grantee: u32,
-    frame: Mfn,
-    writable: u32,
+    /// Who owns the frame: the grant of anybody else counts for nothing.
+    pub grantor: DomId,
+    /// Who may reach it.
+    pub grantee: DomId,
+    /// The frame.
+    pub frame: Mfn,
+    /// Whether for writing too, or for reading alone.
+    pub writable: bool,
 }
 
 impl Grant {
-    /// A grant for reading, or for writing too.
-    pub const fn new(grantor: DomId, grantee: DomId, frame: Mfn, writable: bool) -> Grant {
-        Grant {
-            grantor: grantor as u32,
-            grantee: grantee as u32,
-            frame,
-            writable: writable as u32,
-        }
+    /// The row that the calls are lent.
+    pub const fn row(self) -> GrantRow {
+        GrantRow([
+            self.grantor as u32,
+            self.grantee as u32,
+            self.frame,
+            self.writable as u32,
+        ])
     }
 }
+
+/// A grant as the calls are lent it. [`Grant::row`] alone makes one, so that no two of its numbers
+/// are exchanged.
+#[repr(transparent)]
+#[derive(Clone, Copy, PartialEq, Eq, Debug)]
+pub struct GrantRow([u32; 4]);

@@ -13,7 +13,7 @@ use crate::scene::{DOM, EDGES, FRAMES, LAYOUT};
 #[test]
 fn a_short_arena() {
     let (mut base, mut sup) = ([0; 4], [0; 4]);
-    let maps = leaf_map_from_edges(&EDGES[..], &FRAMES, DOM, &mut base, &mut sup).unwrap();
+    let maps = leaf_map_from_edges(&EDGES, &FRAMES, DOM, &mut base, &mut sup).unwrap();
     let numbers = LAYOUT.numbers();
     let mut arena = Arena::ZEROS;
     let short = &mut arena.words[..3071];

@@ -2,10 +2,9 @@
 
 use crate::arena::{walk, Arena, ARENA_LEN};
 use crate::calls;
-use crate::error::Error;
-use crate::layout::Layout;
+use crate::layout::CheckedLayout;
 use crate::leaf::Reach;
-use crate::maps::Maps;
+use crate::maps::AuthorizedMaps;
 use crate::refusal::Refusal;
 
 /// The stores of an update.
@@ -24,7 +23,7 @@ pub const HALF_WAY: u64 = ARENA_LEN as u64;
 /// begins at step 0, over the words that it finds.
 ///
 /// ```
-/// # use dervhalt_s2::{leaf_map_from_edges, Arena, Edge, Error, Frame, Layout, PageType, PtLevel};
+/// # use dervhalt_s2::*;
 /// use dervhalt_s2::{Progress, Update};
 ///
 /// # fn invalidate() {}
@@ -35,12 +34,14 @@ pub const HALF_WAY: u64 = ARENA_LEN as u64;
 /// #     frame_size: 4096, sup_ipa_base: 0xC000_0000, sup_pa_base: 0x6000_0000,
 /// #     device_base: 0x900_0000, device_len: 0x20_0000, sup_wx_exempt: false, sup_frames: 4,
 /// # };
-/// # let table = Frame::new(Some(3), Some(PageType::PageTable(PtLevel::L1)));
+/// # let frames = [
+/// #     Frame::new(Some(3), Some(PageType::PageTable(PtLevel::L1))), Frame::new(Some(3), None),
+/// # ];
 /// # let edge = Edge { parent: 0, slot: 0, child: 1, writable: true, leaf: true, execute: false };
 /// # let (mut base, mut sup) = ([0; 8], [0; 8]);
-/// # let maps = leaf_map_from_edges(&[edge][..], &[table], 3, &mut base, &mut sup)?;
+/// # let maps = leaf_map_from_edges(&[edge], &frames, 3, &mut base, &mut sup)?;
 /// # let mut arena = Arena::ZEROS;
-/// let mut update = Update::begin(&mut arena, maps, &layout)?;
+/// let mut update = Update::begin(&mut arena, maps.authorized(&[])?, &layout.checked()?)?;
 /// loop {
 ///     match update.step()? {
 ///         Progress::Going => {}
@@ -53,22 +54,36 @@ pub const HALF_WAY: u64 = ARENA_LEN as u64;
 /// # Ok::<(), Error>(())
 /// ```
 ///
-/// Nothing else stores to the arena while an update goes on:
+/// Two updates of an arena come one after the other, and never at once:
 ///
-/// ```compile_fail
-/// # use dervhalt_s2::{Arena, Error, Layout, Maps, Update};
-/// fn two_at_once(arena: &mut Arena, maps: Maps<'_>, layout: &Layout) -> Result<(), Error> {
+/// ```
+/// # use dervhalt_s2::{Arena, AuthorizedMaps, CheckedLayout, Refusal, Update};
+/// # type Made = Result<(), Refusal>;
+/// fn two(arena: &mut Arena, maps: AuthorizedMaps<'_>, layout: &CheckedLayout) -> Made {
+///     let mut first = Update::begin(arena, maps, layout)?;
+///     let _ = first.step()?;
+///     let mut second = Update::begin(arena, maps, layout)?;
+///     let _ = second.step()?;
+///     Ok(())
+/// }
+/// ```
+///
+/// ```compile_fail,E0499
+/// # use dervhalt_s2::{Arena, AuthorizedMaps, CheckedLayout, Refusal, Update};
+/// # type Made = Result<(), Refusal>;
+/// fn two(arena: &mut Arena, maps: AuthorizedMaps<'_>, layout: &CheckedLayout) -> Made {
 ///     let mut first = Update::begin(arena, maps, layout)?;
 ///     let mut second = Update::begin(arena, maps, layout)?;
-///     let _ = (first.step()?, second.step()?);
+///     let _ = first.step()?;
+///     let _ = second.step()?;
 ///     Ok(())
 /// }
 /// ```
 #[derive(Debug)]
 pub struct Update<'a> {
     arena: &'a mut Arena,
-    maps: Maps<'a>,
-    layout: Layout,
+    maps: AuthorizedMaps<'a>,
+    layout: CheckedLayout,
     stores: u64,
 }
 
@@ -86,15 +101,15 @@ pub enum Progress {
 }
 
 impl<'a> Update<'a> {
-    /// Begins an update, without a store: rows 4 to 14, and a table in the output of a window.
+    /// Begins an update, without a store: rows 13 and 14, as for [`encode`](crate::encode).
     pub fn begin(
         arena: &'a mut Arena,
-        maps: Maps<'a>,
-        layout: &Layout,
-    ) -> Result<Update<'a>, Error> {
-        layout.keeps_tables_apart()?;
+        maps: AuthorizedMaps<'a>,
+        layout: &CheckedLayout,
+    ) -> Result<Update<'a>, Refusal> {
+        let numbers = layout.layout().numbers();
         // A step past the last tests all rows before its own, and stores nothing.
-        let answer = calls::step(&mut arena.words, maps, &layout.numbers(), STEPS);
+        let answer = calls::step(&mut arena.words, maps.maps(), &numbers, STEPS);
         match answer.accepted() {
             Err(Refusal::StepPastLast) => Ok(Update {
                 arena,
@@ -102,7 +117,7 @@ impl<'a> Update<'a> {
                 layout: *layout,
                 stores: 0,
             }),
-            Err(refusal) => Err(refusal.into()),
+            Err(refusal) => Err(refusal),
             Ok(()) => answer.outside_contract(),
         }
     }
@@ -110,8 +125,8 @@ impl<'a> Update<'a> {
     /// Makes the next store. Past the last one row 26 refuses, and no other row ever does: what
     /// they test does not change after the update has begun.
     pub fn step(&mut self) -> Result<Progress, Refusal> {
-        let numbers = self.layout.numbers();
-        calls::step(&mut self.arena.words, self.maps, &numbers, self.stores).accepted()?;
+        let (maps, numbers) = (self.maps.maps(), self.layout.layout().numbers());
+        calls::step(&mut self.arena.words, maps, &numbers, self.stores).accepted()?;
         self.stores += 1;
         Ok(match self.stores {
             HALF_WAY => Progress::HalfWay,

@@ -49,17 +49,17 @@ fn records_and_rows_give_the_same() {
     let edges = edges();
     let rows = edges.each_ref().map(row);
     let (mut base, mut sup) = ([7; 8], [7; 8]);
-    let records = leaf_map_from_edges(&edges[..], &FRAMES, DOM, &mut base, &mut sup).unwrap();
+    let records = leaf_map_from_edges(&edges, &FRAMES, DOM, &mut base, &mut sup).unwrap();
     assert_eq!(records.base(), [2, 2, 3, 1, 0, 0, 0, 0]);
     assert_eq!(records.sup(), [0; 8]);
     let perms = [0, 1, 2, 3, 4, 9].map(|mfn| records.perm(Span::Base, mfn));
     let (ro, rw, rx) = (Some(Perm::Ro), Some(Perm::Rw), Some(Perm::Rx));
     assert_eq!(perms, [rw, rw, rx, ro, None, None]);
     let (mut base, mut sup) = ([7; 8], [7; 8]);
-    let from_rows = leaf_map_from_edges(&rows[..], &FRAMES, DOM, &mut base, &mut sup).unwrap();
+    let from_rows = leaf_map_from_edges(&rows, &FRAMES, DOM, &mut base, &mut sup).unwrap();
     assert_eq!(from_rows, records);
     for (span, map) in [(Span::Base, records.base()), (Span::Super, records.sup())] {
-        assert_eq!(check_exact(DOM, map, span, &edges[..], &FRAMES), Ok(()));
+        assert_eq!(check_exact(DOM, map, span, &edges, &FRAMES), Ok(()));
         assert_eq!(check_exact(DOM, map, span, &rows[..], &FRAMES), Ok(()));
     }
 }
@@ -67,12 +67,13 @@ fn records_and_rows_give_the_same() {
 /// The length of a map is the caller's choice, also none.
 #[test]
 fn maps_of_any_length_give_the_same_words() {
+    let layout = LAYOUT.checked().unwrap();
     let mut arenas = [(); 2].map(|()| Arena::ZEROS);
     let (mut base, mut sup) = ([0; 2], []);
     let short = leaf_map_from_edges(&EDGES[..1], &FRAMES, DOM, &mut base, &mut sup).unwrap();
-    encode(&mut arenas[0], short, &LAYOUT).unwrap();
+    encode(&mut arenas[0], short.authorized(&[]).unwrap(), &layout).unwrap();
     let (mut base, mut sup) = ([0; 512], [0; 512]);
     let long = leaf_map_from_edges(&EDGES[..1], &FRAMES, DOM, &mut base, &mut sup).unwrap();
-    encode(&mut arenas[1], long, &LAYOUT).unwrap();
+    encode(&mut arenas[1], long.authorized(&[]).unwrap(), &layout).unwrap();
     assert!(arenas[0] == arenas[1]);
 }

@@ -26,7 +26,7 @@ fn refuses(answer: Result<(), Refusal>, number: u32, expected: Refusal, sentence
 fn refusal_of(layout: &Layout, edges: &[Edge]) -> Result<(), Refusal> {
     made(layout, edges).map_err(|error| match error {
         Error::Refused(refusal) => refusal,
-        Error::InReach { .. } => panic!("{error}"),
+        Error::InReach { .. } | Error::NoArena { .. } => panic!("{error}"),
     })
 }
 
@@ -42,9 +42,10 @@ fn filled(
 /// What verification says of S, or S with an image, after a change of one word.
 fn verified(layout: &Layout, table: Table, index: usize, word: u64) -> Result<(), Refusal> {
     let (mut base, mut sup) = ([0; 8], [0; 8]);
-    let maps = leaf_map_from_edges(&EDGES[..], &FRAMES, DOM, &mut base, &mut sup)?;
+    let maps = leaf_map_from_edges(&EDGES, &FRAMES, DOM, &mut base, &mut sup)?;
+    let checked = layout.checked().expect("the layout is accepted");
     let mut arena = Arena::ZEROS;
-    encode(&mut arena, maps, layout).expect("the layout is accepted");
+    encode(&mut arena, maps.authorized(&[])?, &checked).expect("no row refuses");
     verify_encoding(&arena, maps, layout).expect("what is encoded is verified");
     arena.words[512 * (table as usize - 1) + index] = word;
     verify_encoding(&arena, maps, layout)
@@ -57,7 +58,7 @@ fn row_2() {
         filled(&EDGES, &FRAMES, &mut long, &mut map),
         filled(&EDGES, &FRAMES, &mut map, &mut long),
         check_authorized_with(DOM, &long, &FRAMES, &[]),
-        check_exact(DOM, &long, Span::Base, &EDGES[..], &FRAMES),
+        check_exact(DOM, &long, Span::Base, &EDGES, &FRAMES),
     ];
     for answer in answers {
         let sentence = "a map has more than 512 entries";
@@ -77,10 +78,10 @@ fn row_3() {
             map: span,
             position: 2,
         };
-        let exact = check_exact(DOM, &map, span, &EDGES[..], &FRAMES);
+        let exact = check_exact(DOM, &map, span, &EDGES, &FRAMES);
         refuses(exact, 3, expected, sentence);
     }
-    let base = check_exact(DOM, &map, Span::Base, &EDGES[..], &FRAMES);
+    let base = check_exact(DOM, &map, Span::Base, &EDGES, &FRAMES);
     assert_eq!(check_authorized_with(DOM, &map, &FRAMES, &[]), base);
 }
 
@@ -388,7 +389,13 @@ fn row_24() {
     let mut frames = FRAMES;
     frames[1] = Frame::new(Some(5), None);
     let ask = |map, writable| {
-        check_authorized_with(DOM, map, &frames, &[Grant::new(5, DOM, 1, writable)])
+        let grant = Grant {
+            grantor: 5,
+            grantee: DOM,
+            frame: 1,
+            writable,
+        };
+        check_authorized_with(DOM, map, &frames, &[grant.row()])
     };
     let expected = Refusal::WriteEscalation {
         dom: DOM,
@@ -411,16 +418,17 @@ fn row_25() {
         expected,
     };
     let sentence = "domain 3 maps frame 1 as nothing, and its edges give Rw";
-    let answer = check_exact(DOM, &[0; 4], Span::Base, &EDGES[..], &FRAMES);
+    let answer = check_exact(DOM, &[0; 4], Span::Base, &EDGES, &FRAMES);
     refuses(answer, 25, refusal, sentence);
 }
 
 #[test]
 fn row_26() {
     let (mut base, mut sup) = ([0; 8], [0; 8]);
-    let maps = leaf_map_from_edges(&EDGES[..], &FRAMES, DOM, &mut base, &mut sup).unwrap();
+    let maps = leaf_map_from_edges(&EDGES, &FRAMES, DOM, &mut base, &mut sup).unwrap();
     let mut arena = Arena::ZEROS;
-    let mut update = Update::begin(&mut arena, maps, &LAYOUT).unwrap();
+    let (maps, layout) = (maps.authorized(&[]).unwrap(), LAYOUT.checked().unwrap());
+    let mut update = Update::begin(&mut arena, maps, &layout).unwrap();
     while update.step().unwrap() != Progress::Ended {}
     let words = update.arena().clone();
     let answer = update.step().map(|_| ());

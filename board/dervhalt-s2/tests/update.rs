@@ -4,8 +4,8 @@
 mod scene;
 
 use dervhalt_s2::{
-    encode, leaf_map_from_edges, walk, Arena, Edge, Layout, Maps, Progress, Reach, Update,
-    HALF_WAY, STEPS,
+    encode, leaf_map_from_edges, walk, Arena, AuthorizedMaps, CheckedLayout, Edge, Layout,
+    Progress, Reach, Update, HALF_WAY, STEPS,
 };
 use scene::{DOM, EDGES, FRAMES, LAYOUT};
 
@@ -27,14 +27,20 @@ fn reaches(arena: &Arena) -> Reaches {
     ADDRESSES.map(|ipa| walk(arena, &LAYOUT.tables(), ipa))
 }
 
+/// S.
+fn first() -> CheckedLayout {
+    LAYOUT.checked().expect("the layout is accepted")
+}
+
 /// S with an image, with another output of data and with more supers.
-fn moved() -> Layout {
-    Layout {
+fn moved() -> CheckedLayout {
+    let layout = Layout {
         guest_image_pa: Some(0x1_4000_0000),
         data_pa_base: 0x7000_0000,
         sup_frames: 8,
         ..LAYOUT
-    }
+    };
+    layout.checked().expect("the layout is accepted")
 }
 
 /// Frame 1 can no more be written, and frame 3 is mapped as a super too.
@@ -53,23 +59,26 @@ fn fewer_rights() -> [Edge; 3] {
     ]
 }
 
-fn with_maps<T>(edges: &[Edge], ask: impl FnOnce(Maps<'_>) -> T) -> T {
+fn with_maps<T>(edges: &[Edge], ask: impl FnOnce(AuthorizedMaps<'_>) -> T) -> T {
     let (mut base, mut sup) = ([0; 8], [0; 8]);
-    let maps = leaf_map_from_edges(edges, &FRAMES, DOM, &mut base, &mut sup);
-    ask(maps.expect("the edges are accepted"))
+    let maps = leaf_map_from_edges(edges, &FRAMES, DOM, &mut base, &mut sup)
+        .expect("the edges are accepted");
+    ask(maps
+        .authorized(&[])
+        .expect("all frames are the domain's own"))
 }
 
-fn encoded(maps: Maps<'_>, layout: &Layout) -> Arena {
+fn encoded(maps: AuthorizedMaps<'_>, layout: &CheckedLayout) -> Arena {
     let mut arena = Arena::ZEROS;
-    encode(&mut arena, maps, layout).expect("the layout is accepted");
+    encode(&mut arena, maps, layout).expect("no row refuses");
     arena
 }
 
 /// Makes so many steps, and holds every cut to what an update promises.
-fn update(arena: &mut Arena, maps: Maps<'_>, layout: &Layout, steps: u64) {
+fn update(arena: &mut Arena, maps: AuthorizedMaps<'_>, layout: &CheckedLayout, steps: u64) {
     let (old, granted) = (reaches(arena), reaches(&encoded(maps, layout)));
     let mut before = arena.clone();
-    let mut update = Update::begin(arena, maps, layout).expect("the layout is accepted");
+    let mut update = Update::begin(arena, maps, layout).expect("no row refuses");
     assert!(*update.arena() == before && update.stores() == 0);
     for stores in 1..=steps {
         let progress = update.step().expect("no row refuses");
@@ -109,7 +118,7 @@ fn allowed(stores: u64, found: Reaches, whole: &Reaches) {
 
 #[test]
 fn an_update_goes_from_one_scene_to_another() {
-    let mut arena = with_maps(&EDGES, |maps| encoded(maps, &LAYOUT));
+    let mut arena = with_maps(&EDGES, |maps| encoded(maps, &first()));
     with_maps(&fewer_rights(), |maps| {
         update(&mut arena, maps, &moved(), STEPS);
         assert!(arena == encoded(maps, &moved()));
@@ -119,14 +128,14 @@ fn an_update_goes_from_one_scene_to_another() {
 /// Cut in either half, at half-way and before its last store; then back to the first scene.
 #[test]
 fn a_cut_update_is_begun_again() {
-    let first = with_maps(&EDGES, |maps| encoded(maps, &LAYOUT));
+    let old = with_maps(&EDGES, |maps| encoded(maps, &first()));
     for cut in [0, 3, 1600, HALF_WAY, 5000, STEPS - 1] {
-        let mut arena = first.clone();
+        let mut arena = old.clone();
         with_maps(&fewer_rights(), |maps| {
             update(&mut arena, maps, &moved(), cut)
         });
-        with_maps(&EDGES, |maps| update(&mut arena, maps, &LAYOUT, STEPS));
-        assert!(arena == first);
+        with_maps(&EDGES, |maps| update(&mut arena, maps, &first(), STEPS));
+        assert!(arena == old);
     }
 }
 
@@ -137,7 +146,7 @@ fn an_update_begins_over_any_words() {
         words: [u64::MAX; 3072],
     };
     with_maps(&EDGES, |maps| {
-        update(&mut arena, maps, &LAYOUT, STEPS);
-        assert!(arena == encoded(maps, &LAYOUT));
+        update(&mut arena, maps, &first(), STEPS);
+        assert!(arena == encoded(maps, &first()));
     });
 }

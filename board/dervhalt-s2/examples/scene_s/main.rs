@@ -5,8 +5,8 @@
 mod scene;
 
 use dervhalt_s2::{
-    check_authorized_with, check_exact, encode, leaf_map_from_edges, verify_encoding, walk, Access,
-    Arena, Edge, Error, Maps, Progress, Reach, Span, Update,
+    check_exact, encode, leaf_map_from_edges, verify_encoding, walk, Access, Arena, CheckedLayout,
+    Edge, Error, Maps, Progress, Reach, Span, Update,
 };
 use scene::{DOM, EDGES, FRAMES, LAYOUT};
 
@@ -40,33 +40,33 @@ const WALKS: [(u64, Option<Reach>); 8] = [
 fn main() -> Result<(), Error> {
     LAYOUT.validate()?;
     println!("layout: accepted");
-    assert_eq!(LAYOUT.exposed_table()?, None);
+    let layout = LAYOUT.checked()?;
     println!("tables: in the output of no window");
 
     let (mut base, mut sup) = ([0; 512], [0; 4]);
-    let maps = leaf_map_from_edges(&EDGES[..], &FRAMES, DOM, &mut base, &mut sup)?;
+    let maps = leaf_map_from_edges(&EDGES, &FRAMES, DOM, &mut base, &mut sup)?;
     print_maps(maps);
     for (map, span) in [(maps.base(), Span::Base), (maps.sup(), Span::Super)] {
-        check_exact(DOM, map, span, &EDGES[..], &FRAMES)?;
-        check_authorized_with(DOM, map, &FRAMES, &[])?;
+        check_exact(DOM, map, span, &EDGES, &FRAMES)?;
     }
+    let authorized = maps.authorized(&[])?;
     println!("maps: as the edges give them, and all frames are the domain's own");
 
     let mut arena = Arena::ZEROS;
-    encode(&mut arena, maps, &LAYOUT)?;
+    encode(&mut arena, authorized, &layout)?;
     print_words(&arena);
     verify_encoding(&arena, maps, &LAYOUT)?;
     println!("words: verified");
     for (ipa, expected) in WALKS {
-        let reached = walk(&arena, &LAYOUT.tables(), ipa);
+        let reached = walk(&arena, &layout.tables(), ipa);
         assert_eq!(reached, expected);
         print_walk("walk", ipa, reached);
     }
-    update(&mut arena)
+    update(&mut arena, &layout)
 }
 
 /// Takes from the guest that it may write frame 1.
-fn update(arena: &mut Arena) -> Result<(), Error> {
+fn update(arena: &mut Arena, layout: &CheckedLayout) -> Result<(), Error> {
     let edges = [
         Edge {
             writable: false,
@@ -75,9 +75,9 @@ fn update(arena: &mut Arena) -> Result<(), Error> {
         EDGES[1],
     ];
     let (mut base, mut sup) = ([0; 512], [0; 4]);
-    let maps = leaf_map_from_edges(&edges[..], &FRAMES, DOM, &mut base, &mut sup)?;
+    let maps = leaf_map_from_edges(&edges, &FRAMES, DOM, &mut base, &mut sup)?;
     let ipa = WALKS[0].0;
-    let mut update = Update::begin(arena, maps, &LAYOUT)?;
+    let mut update = Update::begin(arena, maps.authorized(&[])?, layout)?;
     loop {
         match update.step()? {
             Progress::Going => {}
@@ -92,7 +92,7 @@ fn update(arena: &mut Arena) -> Result<(), Error> {
             }
         }
     }
-    verify_encoding(update.arena(), maps, &LAYOUT)?;
+    verify_encoding(update.arena(), maps, layout.layout())?;
     println!("update: {} stores, verified", update.stores());
     Ok(())
 }
