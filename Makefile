@@ -3,6 +3,7 @@
 # make library   what board code links
 # make diff      the comparison with the Rust at scale
 # make arm       an Arm machine as judge
+# make board-arm the Rust crate for board code, on Arm
 # make bench     times beside the Rust
 # make sabotage  faults in the compiled libraries
 # make fmt       lays out every file
@@ -16,7 +17,7 @@ SEED ?= 1
 JUDGE = cargo run --quiet --release --offline --manifest-path oracle/Cargo.toml -p judge --
 TIMED = cargo run --quiet --profile timed --offline --manifest-path oracle/Cargo.toml -p judge --
 
-.PHONY: run test fmt header pages scenes board compare compared self-tested judge diff record bench arm arm-short sabotage library libraries judge-library
+.PHONY: run test fmt header pages scenes board board-arm compare compared self-tested judge diff record bench arm arm-short sabotage library libraries judge-library
 
 run:
 	@mkdir -p target
@@ -68,6 +69,10 @@ board: libraries
 	    cargo run --quiet --offline --example scene_s >../../target/example.out
 	@diff board/example.out target/example.out
 	@echo "board: $$(grep -c '^test .* ok$$' target/board.log) tests of the crate, and scene S in Rust and C"
+
+# The crate over the board's archive, on an Arm processor that QEMU emulates.
+board-arm: library
+	@board/arm.sh
 
 # The port beside the Rust, and the comparison itself beside seeded faults. Without the originals, rt ci still replays their recorded answers.
 compare: compared self-tested

@@ -49,6 +49,11 @@ fn a_table_in_reach_is_refused() {
         assert_eq!(error.to_string(), sentence);
     }
     assert_eq!(LAYOUT.exposed_table(), Ok(None));
+    let checked = LAYOUT.checked().unwrap();
+    assert_eq!(
+        (*checked.layout(), checked.tables()),
+        (LAYOUT, LAYOUT.tables())
+    );
     assert_eq!(made(&LAYOUT, &EDGES), Ok(()));
 }
 
