@@ -49,8 +49,8 @@ impl Arena {
     }
 }
 
-/// Makes the tables of a layout and two maps: rows 13 and 14. What the others test, an [`Arena`],
-/// filled maps and a [`CheckedLayout`] have.
+/// Makes the tables of a layout and two maps: rows 13 and 14. None of rows 1 to 12 refuses an
+/// [`Arena`], filled maps and a [`CheckedLayout`].
 ///
 /// It is for tables that no walker reads yet: its stores come in no promised order. Tables that are
 /// in use are changed by an [`Update`](crate::Update). It clears tables 4 to 6; in 1 to 3 old words
