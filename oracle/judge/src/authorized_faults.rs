@@ -49,6 +49,24 @@ pub const FAULTS: &[Fault<Granted>] = &[
         },
     ),
     fault(
+        "authorized-last-entry-skipped",
+        "the last entry of the map is not looked at",
+        |x, answer| {
+            if refused(answer).is_some() {
+                *answer = with(x, |x| _ = x.map.pop());
+            }
+        },
+    ),
+    fault(
+        "authorized-reading-as-nothing",
+        "a map of Ro entries alone is taken for one that maps nothing",
+        |x, answer| {
+            if refused(answer).is_some() && x.map.iter().all(|byte| *byte < 2) {
+                *answer = ACCEPTED;
+            }
+        },
+    ),
+    fault(
         "authorized-highest-first",
         "the last frame that is refused is reported",
         |x, answer| {

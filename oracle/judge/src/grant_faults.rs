@@ -1,9 +1,12 @@
-//! Slips of a port in reading grants.
+//! Slips of a port in reading grants, and in noting what they give.
+
+use std::collections::HashSet;
 
 use crate::authorized::Granted;
 use crate::authorized_faults::{fault, refused};
 use crate::function::{with, Fault};
-use crate::inputs::Outcome;
+use crate::inputs::{words, Outcome};
+use crate::maps::MAP_LEN;
 use crate::p2m::NOBODY;
 use crate::records::Grant;
 
@@ -52,6 +55,11 @@ pub const FAULTS: &[Fault<Granted>] = &[
         |x, answer| *answer = with_grants(x, |_, grant| grant.frame %= 1 << 16),
     ),
     fault(
+        "authorized-frame-modulo-512",
+        "a grant of a frame past 511 is noted of one below",
+        |x, answer| *answer = with_grants(x, |_, grant| grant.frame %= MAP_LEN as u32),
+    ),
+    fault(
         "authorized-write-by-a-read-grant",
         "a grant for reading is taken for one for writing",
         |x, answer| *answer = with_grants(x, |_, grant| grant.writable = 1),
@@ -93,6 +101,47 @@ pub const FAULTS: &[Fault<Granted>] = &[
                 x.grants.reverse();
                 first_grants(&mut x.grants);
             });
+        },
+    ),
+    fault(
+        "authorized-void-grant-decides",
+        "a grant that does not count takes back what others of its frame give",
+        |x, answer| {
+            *answer = with(x, |x| {
+                let mut seen = HashSet::new();
+                x.grants.reverse();
+                x.grants.retain(|grant| seen.insert(grant.frame));
+            });
+        },
+    ),
+    fault(
+        "authorized-readings-added-up",
+        "two grants for reading make one for writing",
+        |x, answer| {
+            *answer = with_grants(x, |x, grant| {
+                if x.grants.iter().filter(|other| *other == grant).count() > 1 {
+                    grant.writable = 1;
+                }
+            });
+        },
+    ),
+    fault(
+        "authorized-own-writing-taken-back",
+        "a domain's grant to itself for reading leaves it reading alone",
+        |x, answer| {
+            let dom = u32::from(x.dom);
+            let own = |grant: &&Grant| {
+                let frame = grant.frame as usize;
+                (grant.grantor, grant.grantee, grant.writable) == (dom, dom, 0)
+                    && x.frames.get(frame).is_some_and(|frame| frame.owner == dom)
+                    && x.map.get(frame) == Some(&2)
+            };
+            let lowest = x.grants.iter().filter(own).map(|grant| grant.frame).min();
+            let lowest =
+                lowest.filter(|own| refused(answer).is_none_or(|mfn| (*own as usize) < mfn));
+            if let Some(mfn) = lowest.filter(|_| ![2, 3].contains(&answer[0])) {
+                *answer = words([24, dom.into(), mfn.into(), dom.into()]);
+            }
         },
     ),
     fault(
