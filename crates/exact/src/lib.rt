@@ -113,21 +113,7 @@ pub fn unmapped() -> [u8; Layout::ENTRIES]
 }
 
 // The entries after one edge more.
-pub fn noted(
-    mut wanted: [u8; Layout::ENTRIES],
-    e: Edge,
-    dom: u16,
-    span: Span,
-    frames: &[[u32; 2]],
-) -> [u8; Layout::ENTRIES]
-    ensures { λ r. ⌜ ((m : ℕ) → m < entries → getD r m 0 ≡ afterEdge (now (frames .entry)) dom span m (getD wanted m 0) e) ⌝ }
-{
-    note(&mut wanted, e, dom, span, frames);
-    wanted
-}
-
-// The entries after one edge.
-fn note(wanted: &mut [u8], e: Edge, dom: u16, span: Span, frames: &[[u32; 2]])
+pub fn note(wanted: &mut [u8], e: Edge, dom: u16, span: Span, frames: &[[u32; 2]])
     ensures { λ _. ⌜ ((m : ℕ) → m < length (now (wanted .entry)) → getD (now (wanted .exit)) m 0 ≡ afterEdge (now (frames .entry)) dom span m (getD (now (wanted .entry)) m 0) e) ⌝ }
 {
     let child = e.child as usize;

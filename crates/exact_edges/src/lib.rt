@@ -7,7 +7,7 @@ ghost use Rattle.exact.specs.Exact.{exactRows};
 ghost use Rattle.refusal.specs.Outcome.{outcomeOf};
 ghost use Rattle.refusal.specs.Table.{first};
 
-// The edges are read in order, each copied.
+// The edges are read in order, each copied, and noted in place.
 pub fn check_exact(
     dom: u16,
     leaves: &[u8],
@@ -19,7 +19,7 @@ pub fn check_exact(
 {
     let mut wanted = exact::unmapped();
     for i in 0..edges.len() {
-        wanted = exact::noted(wanted, edges[i], dom, span, frames);
+        exact::note(&mut wanted, edges[i], dom, span, frames);
     }
     exact::compare(dom, leaves, span, wanted)
 }
