@@ -1,17 +1,19 @@
 -- The widest entry of a frame: Rw of an own one, with one grant more the wider of two, and none by a grant of another frame.
-use Prim.Native.Nat.{ℕ}
+use Prim.Native.Nat.{ℕ, _≤_, _<_}
 use mathlib.Core.Bool.{Bool, true, false, _&&_, _||_}
 use mathlib.Core.List.{List, [], _∷_, _++_}
 use mathlib.Core.Logic.{_≢_}
 use mathlib.Core.Path.{_≡_, refl, sym, ap, _∙_}
 use lib.Dec.{eqb}
+use lib.ListN.{length, getD, List·getD-eq-default}
 use borrow.Author.Tests.{ne-eqb}
-use Rattle.edge.specs.Edge.{ownedBy, owns}
+use Rattle.edge.specs.Edge.{ownedBy}
 use Rattle.edge.specs.Grant.{covers}
 use Rattle.edge.specs.declared.Grant.{Grant}
+use Rattle.fields.proofs.Default.{getD-inside}
 use Rattle.fields.specs.Named.{pick}
 use Rattle.lent.specs.Larger.{larger}
-use Rattle.p2m.specs.Frame.{ownerOf}
+use Rattle.p2m.specs.Frame.{noFrame, ownerNamed, ownerOf}
 use Rattle.p2m.specs.declared.Owner.{Owner}
 use Rattle.p2m.specs.declared.Owner.the-variants.{Domain, Nobody}
 use Rattle.perm.specs.Perm.{permCode}
@@ -40,8 +42,8 @@ wider false false false true = refl
 wider false false false false = refl
 
 module _ (frames : List (List ℕ)) (dom m : ℕ) where
-  pub own : widestAt frames [] dom m ≡ pick (owns frames dom m) (permCode Rw) 0
-  unfolding widestAt owns granted
+  own : widestAt frames [] dom m ≡ pick (ownedBy dom (ownerOf frames m)) (permCode Rw) 0
+  unfolding widestAt granted
   own = go (ownerOf frames m)
     where
       by-test : (b : Bool) → widest (b || false) (b || false) ≡ pick b (permCode Rw) 0
@@ -51,6 +53,15 @@ module _ (frames : List (List ℕ)) (dom m : ℕ) where
       go : (o : Owner) → widest (reaches [] dom m false o) (reaches [] dom m true o) ≡ pick (ownedBy dom o) (permCode Rw) 0
       go (Domain o) = by-test (eqb o dom)
       go Nobody = refl
+
+  abbrev by-row : List ℕ → ℕ
+  by-row row = pick (ownedBy dom (ownerNamed (getD row 0 0))) (permCode Rw) 0
+
+  pub own-inside : m < length frames → widestAt frames [] dom m ≡ by-row (getD frames m [])
+  own-inside inside = own ∙ ap by-row (sym (getD-inside frames m [] noFrame inside))
+
+  pub own-past : length frames ≤ m → widestAt frames [] dom m ≡ 0
+  own-past past = own ∙ ap by-row (List·getD-eq-default frames noFrame past)
 
   module _ (g : Grant) where
     pub more :

@@ -6,17 +6,22 @@ use perm::Entry;
 use perm::Perm;
 use refusal::Refusal;
 use refusal::Verdict;
-ghost use Prim.Native.Nat.{ℕ, _≤_, _<_};
+ghost use Prim.Native.Nat.{ℕ, min, _≤_, _<_};
 ghost use mathlib.Core.Bool.{true};
 ghost use mathlib.Core.List.{List, [], map};
 ghost use mathlib.Core.Path.{_≡_};
 ghost use lib.ListN.{length, getD};
 ghost use Rattle.authority.specs.Authority.{reachRows, authorityRows};
 ghost use Rattle.authority.specs.Widest.{widestAt, widestBy, asked};
+ghost use Rattle.edge.specs.Edge.{ownedBy};
 ghost use Rattle.edge.specs.Grant.{grantOf};
 ghost use Rattle.edge.specs.declared.Grant.{Grant};
+ghost use Rattle.fields.specs.Named.{pick};
 ghost use Rattle.layout.specs.Size.{entries};
 ghost use Rattle.lent.specs.Larger.{larger};
+ghost use Rattle.p2m.specs.Frame.{ownerNamed};
+ghost use Rattle.perm.specs.Perm.{permCode};
+ghost use Rattle.perm.specs.declared.Perm.the-variants.{Rw};
 ghost use Rattle.refusal.specs.Outcome.{outcomeOf, rowOf};
 ghost use Rattle.refusal.specs.Table.{refused, first, eachFrom};
 ghost use Rattle.refusal.specs.declared.Refusal.the-variants.{UnauthorizedMapping};
@@ -135,22 +140,32 @@ fn widest_entries(
     widest
 }
 
-// Before any grant.
+// Before any grant: the domain's own frames. Past the list nobody's are.
 fn own_entries(dom: u16, count: usize, frames: &[[u32; 2]]) -> [u8; Layout::ENTRIES]
     requires { ⌜ count ≤ entries ⌝ }
     ensures { λ r. ⌜ ((m : ℕ) → m < count → getD r m 0 ≡ widestAt (now (frames .entry)) [] dom m) ⌝ }
 {
     let mut widest = [0u8; Layout::ENTRIES];
-    for m in 0..count {
-        widest[m] = own_entry(dom, m as u32, frames);
+    for m in 0..lesser(count, frames.len()) {
+        widest[m] = own_entry(dom, frames[m][0]);
     }
     widest
 }
 
-fn own_entry(dom: u16, mfn: u32, frames: &[[u32; 2]]) -> u8
-    ensures { λ r. ⌜ r ≡ widestAt (now (frames .entry)) [] dom mfn ⌝ }
+fn lesser(a: usize, b: usize) -> usize
+    ensures { λ r. ⌜ r ≡ min a b ⌝ }
 {
-    if edge::owns(frames, mfn, dom) {
+    if a < b {
+        return a;
+    }
+    b
+}
+
+// A domain's number is its owner number.
+fn own_entry(dom: u16, owner: u32) -> u8
+    ensures { λ r. ⌜ r ≡ pick (ownedBy dom (ownerNamed owner)) (permCode Rw) 0 ⌝ }
+{
+    if owner == dom as u32 {
         return Perm::Rw.code();
     }
     0
