@@ -140,7 +140,7 @@ fn widest_entries(
     widest
 }
 
-// Before any grant: the domain's own frames. Past the list nobody's are.
+// Before any grant: the domain's own frames. `edge::owns` would look for the list's end at each frame, and this loop has no branch.
 fn own_entries(dom: u16, count: usize, frames: &[[u32; 2]]) -> [u8; Layout::ENTRIES]
     requires { ⌜ count ≤ entries ⌝ }
     ensures { λ r. ⌜ ((m : ℕ) → m < count → getD r m 0 ≡ widestAt (now (frames .entry)) [] dom m) ⌝ }
@@ -152,15 +152,6 @@ fn own_entries(dom: u16, count: usize, frames: &[[u32; 2]]) -> [u8; Layout::ENTR
     widest
 }
 
-fn lesser(a: usize, b: usize) -> usize
-    ensures { λ r. ⌜ r ≡ min a b ⌝ }
-{
-    if a < b {
-        return a;
-    }
-    b
-}
-
 // A domain's number is its owner number.
 fn own_entry(dom: u16, owner: u32) -> u8
     ensures { λ r. ⌜ r ≡ pick (ownedBy dom (ownerNamed owner)) (permCode Rw) 0 ⌝ }
@@ -169,6 +160,15 @@ fn own_entry(dom: u16, owner: u32) -> u8
         return Perm::Rw.code();
     }
     0
+}
+
+fn lesser(a: usize, b: usize) -> usize
+    ensures { λ r. ⌜ r ≡ min a b ⌝ }
+{
+    if a < b {
+        return a;
+    }
+    b
 }
 
 // After one grant more, which takes nothing back.

@@ -1,8 +1,7 @@
 -- `all_reached` meets its contract: no entry is too wide, or the first row is that of the entries from m on.
 use Prim.Native.Nat.{_+_, _-_}
 use mathlib.Core.List.{_++_, map}
-use mathlib.Core.Path.{_≡_, refl, sym, ap, _∙_}
-use native.Mathlib.Omega.{arith}
+use mathlib.Core.Path.{_≡_, refl, sym, _∙_}
 use lib.ListN.{getD, drop}
 use borrow.Author.Needs.{needs}
 use denote.Ref.{now}

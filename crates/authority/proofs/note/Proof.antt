@@ -1,7 +1,5 @@
 -- `note` meets its contract: the frame's entry becomes the wider of two, and no other is written.
-use mathlib.Core.Path.{_≡_, _∙_, sym, ap}
 use native.Mathlib.Omega.{arith}
-use lib.ListN.{getD, set}
 use borrow.Author.Needs.{needs}
 use denote.Ref.{now}
 use Rattle.authority.proofs.Noted.{stored, kept, untouched}

@@ -1,4 +1,4 @@
--- `own_entries` meets its contract: the entries before m are written, and past the frames 0 is right.
+-- `own_entries` meets its contract: the entries before m are written; those past the list of frames are to be 0, and are.
 use Prim.Native.Nat.{ℕ, _≤_, _<_, _-_}
 use mathlib.Core.Bool.{Bool, true, false}
 use mathlib.Core.List.{[]}
