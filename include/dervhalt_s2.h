@@ -144,8 +144,9 @@ uint32_t s2_step(
     uint64_t step,
     uint64_t values[8]);
 
-/* What an address reaches: row 1. `tables` has the addresses of tables 1 to 6. The walk starts at the first; a fetch reads the first table whose address is exactly the one named, else
- * zero. It tells 1 and the leaf, with the offset of the address joined to pa, or zeros where it reaches nothing. */
+/* What an address reaches: row 1. `tables` has the addresses of tables 1 to 6. The walk starts at the first; a fetch reads the first table
+ * whose address is exactly the one named, else zero. It tells 1 and the leaf, with the offset of the address joined to pa, or zeros where
+ * it reaches nothing. */
 uint32_t s2_walk(
     const uint64_t *arena, size_t arena_len,
     const uint64_t tables[S2_TABLE_COUNT],
