@@ -37,7 +37,8 @@ fmt:
 	@cargo fmt --all --manifest-path oracle/Cargo.toml
 	@cargo fmt --all --manifest-path board/dervhalt-s2/Cargo.toml
 
-# The C header declares what the static library exports.
+# The C header declares what the static library exports, and has its numbers.
+NUMBERED = crates/layout/src/lib.rt crates/update/src/lib.rt crates/p2m/src/lib.rt crates/vtcr/src/lib.rt
 header:
 	@mkdir -p target
 	@$(CC) -std=c99 -Wall -Wextra -Werror -fsyntax-only -x c include/dervhalt_s2.h
@@ -46,7 +47,10 @@ header:
 	    sed -e :field -e 's/\(struct s2_[a-z]* {[^;}]*\);/\1,/' -e tfield | tr ';' '\n' | \
 	    sed 's/  */ /g; s/^ //; s/( /(/g' | grep ' s2_' >target/declared
 	@diff target/exported target/declared
-	@echo "header: $$(grep -c '(' target/declared) calls as they are exported"
+	@awk -f tools/numbers.awk $(NUMBERED) >target/numbers
+	@{ echo '#include "dervhalt_s2.h"'; sed 's/"\(.*\)".*/"\1" \1/' target/numbers; } | \
+	    $(CC) -E -P -Iinclude -x c - | grep '^"' | diff target/numbers -
+	@echo "header: $$(grep -c '(' target/declared) calls as they are exported, $$(wc -l <target/numbers) numbers"
 
 # What the pages say of files and counts, and of the stack.
 pages: library
@@ -120,6 +124,7 @@ sabotage: libraries
 # What board code links: for the board, and for the machine that builds.
 library:
 	@mkdir -p target
+	@: >target/stack
 	@{ tools/module.sh s2 && tools/aarch64.sh s2 >target/stack; } >target/library.log 2>&1 || { cat target/library.log target/stack; exit 1; }
 	@echo "library: target/aarch64/libs2.a for the board, target/staticlib/libs2.a for this machine, include/dervhalt_s2.h; $$(cat target/stack)"
 

@@ -1,5 +1,6 @@
 #include "machine.h"
 
+#include "dervhalt_s2.h"
 #include "host.h"
 #include "random.h"
 
@@ -69,8 +70,9 @@ unsigned draw_bits(void)
 
 void run_under(uint64_t l1_pa, unsigned bits)
 {
-    uint64_t whole = (BALEEN_VTCR_EL2 & ~(7ull << PS_SHIFT)) | physical_size() << PS_SHIFT;
-    WRITE(vtcr_el2, bits == BALEEN_OUTPUT_BITS ? BALEEN_VTCR_EL2 : whole);
+    uint64_t whole = (S2_VTCR_EL2 & ~(7ull << PS_SHIFT)) | physical_size() << PS_SHIFT;
+    WRITE(sctlr_el2, 0x30C50830); /* stage 1 of EL2 off, little-endian */
+    WRITE(vtcr_el2, bits == BALEEN_OUTPUT_BITS ? S2_VTCR_EL2 : whole);
     WRITE(vttbr_el2, l1_pa | 1ull << 48);
     WRITE(hcr_el2, HCR_RW | HCR_VM);
     WRITE(mdcr_el2, MDCR_TDE); /* a BRK of EL0 or EL1 comes to EL2, and so does a step */
@@ -79,6 +81,7 @@ void run_under(uint64_t l1_pa, unsigned bits)
     WRITE(sctlr_el1, 0x30D00800); /* stage 1 off: an address of EL1 is an input of stage 2 */
     WRITE(tcr_el1, 0);
     WRITE(vbar_el1, NO_VECTORS);
+    __asm__ volatile("isb"); /* what is invalidated is by VTTBR_EL2's VMID */
     invalidate();
 }
 

@@ -34,8 +34,7 @@ struct translated allowed(struct verdict verdict, enum access access);
 bool in_memory(uint64_t pa);
 bool in_scratch(uint64_t pa);
 
-/* The regime that is run, BALEEN_STAGE2's VTCR_EL2, and the same with as many output bits as the machine has, up to 48. */
-#define BALEEN_VTCR_EL2 0x80023559ull
+/* The regime that is run, S2_VTCR_EL2, and the same with as many output bits as the machine has, up to 48. */
 #define BALEEN_OUTPUT_BITS 40
 
 bool has_xnx(void);

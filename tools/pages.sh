@@ -1,5 +1,6 @@
 #!/bin/sh
-# Holds what the pages say to the files: every path is there; the definitions that must be believed, the edits and the described calls are as many.
+# Holds what the pages say to the files: every path is there; the definitions that must be believed, the edits and the described calls are as
+# many; so much stack is taken; and the board's register has its value.
 set -eu
 cd "$(dirname "$0")/.."
 pages="README.md NOTICE docs/*.md oracle/README.md arm/README.md board/README.md"
@@ -26,7 +27,10 @@ says docs/TRUST.md "$(believed $calls $demand2 $demand3 $dump)"
 says docs/SABOTAGE.md "There are $(ls crates/*/must-fail/*.edit | wc -l), in $(ls -d crates/*/must-fail | wc -l) crates"
 
 # Where the library has been made.
-[ ! -e target/stack ] || says board/README.md "$(cat target/stack)"
+[ ! -s target/stack ] || says board/README.md "$(cat target/stack)"
+
+# The value that board code in Rust is given.
+says board/dervhalt-s2/src/lib.rs "VTCR_EL2: u64 = $(sed -n 's/^BaleenValue = .* Value //p' crates/vtcr/specs/RoundTrip.antt);"
 
 # Each exported call has a contract, over `values` at exit; the step assigns to the arena once.
 awk '/pub extern "C" fn/ { calls++; open = 1 } /ensures/ && open { described += /values \.exit/; open = 0 }

@@ -50,8 +50,39 @@ pub struct Layout {
     pub sup_frames: u64,
 }
 
-/// A layout that rows 4 to 12 let by and that has no table in the output of a window, as
-/// [`Layout::checked`] has found it: what tables are made of.
+/// A layout that rows 4 to 12 let by and that has none of its own tables in the output of a window,
+/// as [`Layout::checked`] has found it: what tables are made of. Nothing else makes one, and it is
+/// not changed:
+///
+/// ```
+/// # use dervhalt_s2::{CheckedLayout, Error, Layout};
+/// fn of(layout: Layout) -> Result<CheckedLayout, Error> {
+///     layout.checked()
+/// }
+/// ```
+///
+/// ```compile_fail,E0423
+/// # use dervhalt_s2::{CheckedLayout, Error, Layout};
+/// fn of(layout: Layout) -> Result<CheckedLayout, Error> {
+///     Ok(CheckedLayout(layout))
+/// }
+/// ```
+///
+/// ```compile_fail,E0277
+/// # use dervhalt_s2::{CheckedLayout, Error, Layout};
+/// fn of(layout: Layout) -> Result<CheckedLayout, Error> {
+///     Ok(layout.into())
+/// }
+/// ```
+///
+/// ```compile_fail,E0594
+/// # use dervhalt_s2::{CheckedLayout, Error, Layout};
+/// fn of(layout: Layout) -> Result<CheckedLayout, Error> {
+///     let mut checked = layout.checked()?;
+///     checked.layout().l1_pa = 0;
+///     Ok(checked)
+/// }
+/// ```
 #[derive(Clone, Copy, PartialEq, Eq, Debug)]
 pub struct CheckedLayout(Layout);
 
@@ -87,9 +118,9 @@ impl Layout {
         calls::validate(&self.numbers()).accepted()
     }
 
-    /// The layout as what tables are made of: rows 4 to 12, then no table in the output of a
-    /// window. The second is what this crate asks beyond document 01's rows: a guest that is mapped
-    /// a table maps itself anything.
+    /// The layout as what tables are made of: rows 4 to 12, then none of its tables in the output
+    /// of a window. The second is what this crate asks beyond document 01's rows: a guest that is
+    /// mapped a table maps itself anything. Of another guest's tables a layout knows nothing.
     pub fn checked(&self) -> Result<CheckedLayout, Error> {
         match self.exposed_table()? {
             None => Ok(CheckedLayout(*self)),

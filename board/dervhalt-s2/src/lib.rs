@@ -111,5 +111,5 @@ pub use refusal::Refusal;
 pub use update::{Progress, Update, HALF_WAY, STEPS};
 
 /// The value of VTCR_EL2 that the tables are made for: 4 KB granule, 39-bit input, start level 1,
-/// 40-bit output.
+/// 40-bit output, 8-bit VMID.
 pub const VTCR_EL2: u64 = 0x8002_3559;

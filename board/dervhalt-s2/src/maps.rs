@@ -24,6 +24,12 @@ pub struct Maps<'a> {
 }
 
 impl<'a> Maps<'a> {
+    /// The domain whose maps they are. Nothing else says for which guest's arena and layout they
+    /// are.
+    pub fn dom(self) -> DomId {
+        self.dom
+    }
+
     /// The entries of base pages.
     pub fn base(self) -> &'a [u8] {
         self.base
@@ -81,7 +87,29 @@ impl<'a> Maps<'a> {
 }
 
 /// Both leaf maps of a domain that may reach every frame in them, as [`Maps::authorized`] has found
-/// it or [`Maps::assume_authorized`] takes it to be: what tables are made of.
+/// it or [`Maps::assume_authorized`] takes it to be: what tables are made of. Nothing else makes
+/// them:
+///
+/// ```
+/// # use dervhalt_s2::{AuthorizedMaps, Maps};
+/// fn of<'a>(maps: Maps<'a>) -> AuthorizedMaps<'a> {
+///     maps.assume_authorized()
+/// }
+/// ```
+///
+/// ```compile_fail,E0423
+/// # use dervhalt_s2::{AuthorizedMaps, Maps};
+/// fn of<'a>(maps: Maps<'a>) -> AuthorizedMaps<'a> {
+///     AuthorizedMaps(maps)
+/// }
+/// ```
+///
+/// ```compile_fail,E0277
+/// # use dervhalt_s2::{AuthorizedMaps, Maps};
+/// fn of<'a>(maps: Maps<'a>) -> AuthorizedMaps<'a> {
+///     maps.into()
+/// }
+/// ```
 #[derive(Clone, Copy, PartialEq, Eq, Debug)]
 pub struct AuthorizedMaps<'a>(Maps<'a>);
 

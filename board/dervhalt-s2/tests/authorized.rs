@@ -140,6 +140,7 @@ fn assumed_maps_are_encoded_as_they_are() {
     });
     let assumed = with_maps(&frames(OTHER, OTHER), &EDGES, |maps| {
         assert_eq!(maps.assume_authorized().maps(), maps);
+        assert_eq!(maps.dom(), DOM);
         encoded(maps.assume_authorized())
     });
     assert!(assumed == checked);

@@ -10,7 +10,7 @@ use changed::{changed, Change};
 use dervhalt_s2::{
     check_authorized_with, check_exact, encode, leaf_map_from_edges, verify_encoding, Access,
     Arena, Check, Decoded, Edge, Error, Frame, Grant, Layout, PageType, Perm, Progress, PtLevel,
-    Refusal, Span, Table, Update, Window, STEPS,
+    Refusal, Span, Table, Update, Window, MAP_LEN, STEPS,
 };
 use made::made;
 use scene::{DOM, EDGES, FRAMES, LAYOUT};
@@ -53,7 +53,7 @@ fn verified(layout: &Layout, table: Table, index: usize, word: u64) -> Result<()
 
 #[test]
 fn row_2() {
-    let (mut long, mut map) = ([7; 513], [7; 512]);
+    let (mut long, mut map) = ([7; MAP_LEN + 1], [7; MAP_LEN]);
     let answers = [
         filled(&EDGES, &FRAMES, &mut long, &mut map),
         filled(&EDGES, &FRAMES, &mut map, &mut long),
@@ -64,7 +64,8 @@ fn row_2() {
         let sentence = "a map has more than 512 entries";
         refuses(answer, 2, Refusal::MapLength, sentence);
     }
-    assert_eq!((long, map), ([7; 513], [7; 512]));
+    assert_eq!((long, map), ([7; MAP_LEN + 1], [7; MAP_LEN]));
+    assert_eq!(filled(&EDGES, &FRAMES, &mut map, &mut [0; 8]), Ok(()));
 }
 
 #[test]
