@@ -5,7 +5,6 @@ use mathlib.Core.Path.{_≡_}
 use Rattle.desc.specs.WordFields.{readExecute, readWrite}
 use Rattle.desc.specs.Words.{tableWord, pageWord, blockWord, imageWord, deviceWord, leafAccessXn}
 use Rattle.desc.specs.declared.AccessXn.{AccessXn}
-use Rattle.fields.specs.Numbers.{bit}
 use Rattle.perm.specs.declared.Perm.{Perm}
 use Rattle.decode.specs.Decoded.{decodedPage, decodedBlock, decodedTable, decodedDevice}
 use Rattle.decode.specs.declared.DecodedBlock.the-variants.{Device}

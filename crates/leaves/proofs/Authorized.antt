@@ -7,7 +7,6 @@ use mathlib.Core.Path.{_≡_, refl, sym, ap, _∙_}
 use lib.Dec.{eqb}
 use lib.ListN.{getD}
 use borrow.Author.Tests.{eqb-true, eq-eqb, not-false}
-use Rattle.authority.proofs.Grants.{reading}
 use Rattle.authority.proofs.Owned.{allowed, unmapped, of-owner}
 use Rattle.authority.specs.Authority.{granted, reaches, row23, ownerRows, reachRows, authorityRows}
 use Rattle.edge.specs.Grant.{covers}

@@ -1,5 +1,5 @@
 -- The order inside rows, by computation.
-use mathlib.Core.List.{flatMap, map}
+use mathlib.Core.List.{flatMap}
 use mathlib.Core.Path.{refl}
 use Rattle.layout.specs.Layout.{layoutOf}
 use Rattle.refusal.specs.Table.{first, eachFrom, pairs}

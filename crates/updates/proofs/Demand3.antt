@@ -10,11 +10,9 @@ use lib.Dec.{ltb}
 use lib.ListN.{length, getD, List·getD-eq-default}
 use lib.Seq.{ext-getD}
 use borrow.Author.Tests.{ltb-true, ltb-false}
-use Rattle.arena.specs.Encoded.{target}
 use Rattle.layout.specs.Size.{arenaLength}
 use Rattle.update.specs.Step.{halfway, stepCount}
 use Rattle.walk.specs.Descent.{Words, wordsOf}
-use Rattle.window_reach.specs.Granted.{granted}
 use Rattle.updates.specs.Cuts.{targetFrom, wordAfter, WordByWord}
 use Rattle.updates.specs.Demand3.{Source, mapsOf, grantedFrom, Step, Cut, cutAfter, Premises, In, begun, to-begin, EachRead, Reader, theWalk, theManual, Concludes, Demand3}
 use Rattle.updates.proofs.AfterStores.{zeroed, untouched, stored, from-halfway}

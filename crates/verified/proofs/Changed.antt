@@ -16,7 +16,7 @@ use Rattle.layout.specs.Window.{imageWindow, l2Slot, slot}
 use Rattle.layout.specs.declared.Layout.{Layout}
 use Rattle.layout.specs.declared.Window.{Window}
 use Rattle.refusal.proofs.None.{none, both, test}
-use Rattle.refusal.specs.Table.{Row, Outcome, first, given, each, table}
+use Rattle.refusal.specs.Table.{Row, first, given, each, table}
 use Rattle.rows.specs.Rows.{row1, mapRows, refusals}
 use Rattle.verify_rows.proofs.Range.{everywhere}
 use Rattle.verify_rows.specs.Verifying.{Live, word, range, indices, liveOf, liveRow, liveAt, otherRow, otherRows, l1Rows, imageRows, dataRows, baseRow, superRow, wantedBlock, deviceRow, encodingRows, verifyRows}

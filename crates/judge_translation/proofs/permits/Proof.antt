@@ -7,7 +7,7 @@ use native.Mathlib.Omega.{arith}
 use lib.Dec.{eqb}
 use lib.ListN.{List·getD-eq-default}
 use Rattle.fields.specs.Bits.{bits}
-use Rattle.manual.specs.Translation.{reads, writes, executes, el0, el1, executable, permits}
+use Rattle.manual.specs.Translation.{reads, writes, executes, el0, el1, executable}
 use Rattle.judge_translation.specs.Answer.{accessNumbered}
 use Rattle.judge_translation.proofs.permits.Statement.{statement}
 use Rattle.judge_translation.proofs.permits.Tie as tie

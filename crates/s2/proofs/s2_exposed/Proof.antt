@@ -1,5 +1,5 @@
 -- `s2_exposed` meets its contract: each callee equals its definition.
-use mathlib.Core.Path.{_≡_, ap, sym, _∙_}
+use mathlib.Core.Path.{ap, sym, _∙_}
 use native.Mathlib.Omega.{arith}
 use borrow.Author.Needs.{needs}
 use Rattle.exposed.specs.Exposed.{exposure, exposureValues, exposureOf}

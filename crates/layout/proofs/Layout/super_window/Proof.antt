@@ -1,6 +1,5 @@
 -- `super_window` meets its contract: by row 8's test.
 use native.Mathlib.Omega.{arith}
-use borrow.Author.Needs.{needs}
 use borrow.Author.Tests.{le-leb, lt-leb}
 use Rattle.layout.proofs.Layout.super_window.Statement.{statement}
 use Rattle.layout.proofs.Layout.super_window.Tie as tie
