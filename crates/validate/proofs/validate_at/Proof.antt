@@ -42,7 +42,7 @@ abbrev at6 : tie.Else2 → tie.Start
 at6 c = c .before .before .before .before
 
 abbrev at7 : tie.After-enum-told → tie.Start
-at7 c = at6 (c .before .before .before .before)
+at7 c = at6 (c .before .before .before)
 
 abbrev at8 : tie.After-enum-told3 → tie.Start
 at8 c = at7 (c .before .before .before .before .before)
@@ -51,16 +51,11 @@ past-5 : (c : tie.Else2) → Left (at6 c) from6
 unfolding refusalsAt row4 row5 flatMap
 past-5 c = simp (eq-eqb _ _ (c .before .before .if1 .left), eq-eqb _ _ (c .if2 .left))
 
-aligned :
-    (c : tie.After-all-aligned) →
-    outcomeOf (c .all-aligned .result) ≡ first (each row6 (checksOf (at6 (c .before .before) .args .l)))
-aligned c = c .all-aligned .ensures ∙ ap (λ cs. first (each row6 cs)) (c .before .checks .ensures)
-
 past-6 : (c : tie.After-enum-told) → Left (at7 c) from7
 unfolding flatMap
 past-6 c =
     let v = c .before .before in
-    past-5 (v .before .before) ∙ next _ _ (v .all-aligned .result) refl (c .enum-told .given .1) (aligned v)
+    past-5 (v .before) ∙ next _ _ (v .all-aligned .result) refl (c .enum-told .given .1) (v .all-aligned .ensures)
 
 nameable :
     (c : tie.After-all-nameable) →
@@ -99,9 +94,6 @@ returns-2 : tie.Need-returns-2
 unfolding refusalsAt row4 row5 first flatMap
 returns-2 c = simp (eq-eqb _ _ (c .before .before .if1 .left), ne-eqb _ _ (c .if2 .taken))
 
-checks-requires : tie.Need-checks-requires
-checks-requires c κs = search needs
-
 all-aligned-requires : tie.Need-all-aligned-requires
 all-aligned-requires c κs = search needs
 
@@ -116,7 +108,7 @@ unfolding flatMap
 returns-3 c =
     let v = c .before .before in
     let refused = c .enum-told2 .given in
-    stop _ _ (v .all-aligned .result) (refused .0 .0) refl (refused .1) (aligned v) ∙ sym (past-5 (v .before .before))
+    stop _ _ (v .all-aligned .result) (refused .0 .0) refl (refused .1) (v .all-aligned .ensures) ∙ sym (past-5 (v .before))
 
 capped-requires : tie.Need-capped-requires
 capped-requires c κs = search needs
@@ -184,7 +176,6 @@ validate-at-spec =
     (tie.spec
     returns
     returns-2
-    checks-requires
     all-aligned-requires
     enum-told
     enum-told-2
