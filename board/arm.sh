@@ -1,6 +1,6 @@
 #!/bin/sh
-# The crate on Arm: built for aarch64 over the board's archive, its tests and scene S run by qemu-aarch64. The compiler is Debian's, for which
-# Debian has the standard library of aarch64 too, with the C library that it runs on. Where they cannot be installed, nothing is run.
+# The crate on Arm: built for aarch64 over the board's archive, its tests and scene S run by qemu-aarch64. The compiler is Debian's, for
+# which Debian has the standard library of aarch64 too, with the C library that it runs on. Where they cannot be installed, nothing is run.
 set -eu
 cd "$(dirname "$0")/.."
 log=$PWD/target/board-arm.log
@@ -8,12 +8,13 @@ target=aarch64-unknown-linux-gnu
 export PATH="/usr/bin:$PATH"
 
 is_there() {
-    command -v cargo && command -v aarch64-linux-gnu-gcc && command -v qemu-aarch64 &&
-        ls "$(rustc --print target-libdir --target $target)"/libstd-*.rlib /lib/ld-linux-aarch64.so.1
+    command -v cargo && command -v qemu-aarch64 && ls "$(rustc --print target-libdir --target $target)"/libstd-*.rlib &&
+        ls "$(aarch64-linux-gnu-gcc -print-file-name=Scrt1.o)" /lib/ld-linux-aarch64.so.1
 }
 install_it() {
     dpkg --add-architecture arm64 && timeout 120 apt-get update &&
-        timeout 600 apt-get install -y --no-install-recommends rustc-web cargo-web libstd-rust-web-dev:arm64 gcc-aarch64-linux-gnu qemu-user
+        timeout 600 apt-get install -y --no-install-recommends rustc-web cargo-web libstd-rust-web-dev:arm64 \
+            gcc-aarch64-linux-gnu libc6-dev-arm64-cross qemu-user
 }
 { is_there || install_it || true; } >"$log" 2>&1
 if ! is_there >>"$log" 2>&1; then
