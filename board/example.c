@@ -106,7 +106,7 @@ static void verify(void)
 static void encode(void)
 {
     accepted("encode", s2_encode(arena, S2_ARENA_LEN, base, S2_MAP_LEN, sup, SUPERS, &layout, values));
-    /* DSB ISHST, ISB: only then VTTBR_EL2 names the tables. */
+    /* DSB ISHST, ISB: only then VTTBR_EL2 names the tables. ISB, TLBI VMALLS12E1IS, DSB ISH, ISB: only then the guest runs. */
 }
 
 /* Takes from the guest that it may write frame 1, while it runs. */

@@ -69,7 +69,7 @@ extern "C" {
 #define S2_TABLE_COUNT 6
 
 /* The value of VTCR_EL2 that the tables are made for: 4 KB granule, 39-bit input, start level 1, 40-bit output, 8-bit VMID. */
-#define S2_VTCR_EL2 0x80023559
+#define S2_VTCR_EL2 0x80023559ull
 
 /* A layout: document 01's sixteen fields in their order, with whether there is an image just before the image. Of `has_image` and
  * `sup_wx_exempt`, zero is no and all else yes. */

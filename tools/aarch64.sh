@@ -18,6 +18,10 @@ $bin/clang $flags -O3 -Werror -Wno-override-module -fstack-usage -S -x ir "$out/
 $bin/clang $flags -Wno-unused-command-line-argument -c "$out/$crate.s" -o "$out/$crate.o"
 rm -f "$out/lib$crate.a"
 $bin/llvm-ar rcsD "$out/lib$crate.a" "$out/$crate.o"
-# With that, nothing is undefined in it.
-$bin/ld.lld --no-warnings $(printf -- '--defsym=%s=0 ' $needs) --whole-archive "$out/lib$crate.a" -o "$out/$crate.linked"
+# With that, nothing is undefined in it, and nothing in it is written.
+$bin/ld.lld --no-warnings $(printf -- '--defsym=%s=0 ' $needs) --whole-archive "$out/lib$crate.a" -o /dev/null
+if grep -nE '^[[:space:]]*\.(data|bss|comm|lcomm|local)|\.section[[:space:]]+"?\.(t?data|t?bss)' "$out/$crate.s"; then
+    echo "lib$crate.a holds writable data"
+    exit 1
+fi
 awk -v needs="$needs" -f tools/stack.awk "$out/$crate.su" "$out/$crate.s"

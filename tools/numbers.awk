@@ -13,6 +13,8 @@
     value[name] = 1
     for (i = 1; i <= count; i++)
         value[name] *= factor[i] in value ? value[factor[i]] : factor[i]
+    if (text !~ /^[A-Z0-9_]+( \* [A-Z0-9_]+)*$/ || text ~ /[0-9]_/)
+        value[name] = "is not read: " text
 }
 
 /^            Span::[A-Z][a-z]+ => [0-9]+,$/ {
@@ -26,6 +28,7 @@ board && /ensures/ {
     match($0, /0x[0-9A-F_]+/)
     value["VTCR_EL2"] = substr($0, RSTART, RLENGTH)
     gsub(/_/, "", value["VTCR_EL2"])
+    value["VTCR_EL2"] = value["VTCR_EL2"] "ull"
     board = 0
 }
 

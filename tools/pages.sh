@@ -29,8 +29,10 @@ says docs/SABOTAGE.md "There are $(ls crates/*/must-fail/*.edit | wc -l), in $(l
 # Where the library has been made.
 [ ! -s target/stack ] || says board/README.md "$(cat target/stack)"
 
-# The value that board code in Rust is given.
-says board/dervhalt-s2/src/lib.rs "VTCR_EL2: u64 = $(sed -n 's/^BaleenValue = .* Value //p' crates/vtcr/specs/RoundTrip.antt);"
+# The value that board code is given.
+vtcr=$(sed -n 's/^BaleenValue = .* Value //p' crates/vtcr/specs/RoundTrip.antt)
+says board/dervhalt-s2/src/lib.rs "pub const VTCR_EL2: u64 = $vtcr;"
+says board/README.md "VTCR_EL2 is $(echo "$vtcr" | tr -d _) "
 
 # Each exported call has a contract, over `values` at exit; the step assigns to the arena once.
 awk '/pub extern "C" fn/ { calls++; open = 1 } /ensures/ && open { described += /values \.exit/; open = 0 }

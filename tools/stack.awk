@@ -14,7 +14,7 @@ FILENAME ~ /\.su$/ {
 }
 
 # A function's label.
-/^"?[A-Za-z_]/ && /:/ { name = symbol($1) }
+$1 ~ /:$/ && symbol($1) in frame { name = symbol($1) }
 
 $1 == ".type" && /@function/ {
     sub(/,@function$/, "", $2)
@@ -22,16 +22,16 @@ $1 == ".type" && /@function/ {
         fail(symbol($2) " has no frame's size")
 }
 
-$1 == ".globl" { exported[symbol($2)] = 1 }
+$1 == ".globl" || $1 == ".weak" { exported[symbol($2)] = 1 }
 
 $1 == ".set" { fail(symbol($2) " is an alias") }
 
-$1 == "blr" { fail(name " calls by a pointer") }
+$1 ~ /^blr(a[ab]z?)?$/ { fail(name " calls by a pointer") }
 
 # A jump by a pointer goes through a jump table, whose address was taken before it.
 $1 == "adrp" && $3 ~ /^\.LJTI/ { tables[name]++ }
 
-$1 == "br" && tables[name]-- < 1 { fail(name " jumps by a pointer") }
+($1 ~ /^br(a[ab]z?)?$/ && tables[name]-- < 1) || ($1 == "ret" && $2 ~ /^x/) { fail(name " jumps by a pointer") }
 
 # A call, or a jump to another function in the place of a return.
 $1 ~ /^(bl?|b\.[a-z]+|cbn?z|tbn?z)$/ {
@@ -44,7 +44,7 @@ $1 ~ /^(bl?|b\.[a-z]+|cbn?z|tbn?z)$/ {
 
 END {
     for (name in exported)
-        if ((bytes = deepest(name, " ")) > most || (bytes == most && name < by)) {
+        if ((bytes = deepest(name, " ")) > most || by == "" || (bytes == most && name < by)) {
             most = bytes
             by = name
         }

@@ -52,8 +52,9 @@ impl Arena {
 /// Makes the tables of a layout and two maps: rows 13 and 14. None of rows 1 to 12 refuses an
 /// [`Arena`], filled maps and a [`CheckedLayout`].
 ///
-/// It is for tables that no walker reads yet: its stores come in no promised order. Tables that are
-/// in use are changed by an [`Update`](crate::Update). It clears tables 4 to 6; in 1 to 3 old words
+/// It is for tables that no walker reads yet: its stores come in no promised order, and before a
+/// guest runs on them translations cached under its VMID are invalidated. Tables that are in use are
+/// changed by an [`Update`](crate::Update). It clears tables 4 to 6; in 1 to 3 old words
 /// remain unless overwritten, so begin with [`Arena::ZEROS`]. A refusal changes nothing.
 ///
 /// Maps come to it by [`Maps::authorized`], so that a guest is mapped no frame by mistake that is

@@ -51,8 +51,7 @@ pub struct Layout {
 }
 
 /// A layout that rows 4 to 12 let by and that has none of its own tables in the output of a window,
-/// as [`Layout::checked`] has found it: what tables are made of. Nothing else makes one, and it is
-/// not changed:
+/// as [`Layout::checked`] has found it: what tables are made of. Nothing else makes one:
 ///
 /// ```
 /// # use dervhalt_s2::{CheckedLayout, Error, Layout};
@@ -72,15 +71,6 @@ pub struct Layout {
 /// # use dervhalt_s2::{CheckedLayout, Error, Layout};
 /// fn of(layout: Layout) -> Result<CheckedLayout, Error> {
 ///     Ok(layout.into())
-/// }
-/// ```
-///
-/// ```compile_fail,E0594
-/// # use dervhalt_s2::{CheckedLayout, Error, Layout};
-/// fn of(layout: Layout) -> Result<CheckedLayout, Error> {
-///     let mut checked = layout.checked()?;
-///     checked.layout().l1_pa = 0;
-///     Ok(checked)
 /// }
 /// ```
 #[derive(Clone, Copy, PartialEq, Eq, Debug)]
