@@ -38,7 +38,7 @@ fmt:
 	@cargo fmt --all --manifest-path board/dervhalt-s2/Cargo.toml
 
 # The C header declares what the static library exports, and has its numbers.
-NUMBERED = crates/layout/src/lib.rt crates/update/src/lib.rt crates/p2m/src/lib.rt crates/vtcr/src/lib.rt
+NUMBERED = crates/layout/src/lib.rt crates/update/src/lib.rt crates/p2m/src/lib.rt
 header:
 	@mkdir -p target
 	@$(CC) -std=c99 -Wall -Wextra -Werror -fsyntax-only -x c include/dervhalt_s2.h

@@ -1,5 +1,5 @@
 # Prints the numbers that the C header names, as the Rattle files have them: each name in quotes, and its number.
-# awk -f tools/numbers.awk crates/layout/src/lib.rt crates/update/src/lib.rt crates/p2m/src/lib.rt crates/vtcr/src/lib.rt
+# awk -f tools/numbers.awk crates/layout/src/lib.rt crates/update/src/lib.rt crates/p2m/src/lib.rt
 
 # A number, or a product of numbers and of constants before it.
 /^ *(pub )?const [A-Z0-9_]+: (usize|u64) = / {
@@ -22,18 +22,8 @@
     value[$1] = $3
 }
 
-/^pub fn baleen_vtcr_el2\(/ { board = 1 }
-
-board && /ensures/ {
-    match($0, /0x[0-9A-F_]+/)
-    value["VTCR_EL2"] = substr($0, RSTART, RLENGTH)
-    gsub(/_/, "", value["VTCR_EL2"])
-    value["VTCR_EL2"] = value["VTCR_EL2"] "ull"
-    board = 0
-}
-
 END {
-    count = split("ARENA_LEN ARENA_LEN STEPS STEPS MAP_LEN ENTRIES TABLE_COUNT TABLES BASE Span::Base SUPER Span::Super VTCR_EL2 VTCR_EL2", of, " ")
+    count = split("ARENA_LEN ARENA_LEN STEPS STEPS MAP_LEN ENTRIES TABLE_COUNT TABLES BASE Span::Base SUPER Span::Super", of, " ")
     for (i = 1; i < count; i += 2)
         print "\"S2_" of[i] "\" " value[of[i + 1]]
 }

@@ -32,6 +32,7 @@ says docs/SABOTAGE.md "There are $(ls crates/*/must-fail/*.edit | wc -l), in $(l
 # The value that board code is given.
 vtcr=$(sed -n 's/^BaleenValue = .* Value //p' crates/vtcr/specs/RoundTrip.antt)
 says board/dervhalt-s2/src/lib.rs "pub const VTCR_EL2: u64 = $vtcr;"
+says include/dervhalt_s2.h "#define S2_VTCR_EL2 $(echo "$vtcr" | tr -d _)ull"
 says board/README.md "VTCR_EL2 is $(echo "$vtcr" | tr -d _) "
 
 # Each exported call has a contract, over `values` at exit; the step assigns to the arena once.
