@@ -7,18 +7,19 @@ use mathlib.Core.Path.{_≡_, refl, sym}
 use native.Mathlib.Numerals.{lt-of-le-of-ne}
 use native.Mathlib.Omega.{arith}
 use lib.Dec.{ltb}
+use lib.ListN.{length}
 use borrow.Author.Tests.{ltb-true, ltb-false, leb-false, eqb-true, eqb-false, not-false, le-ltb}
 use Rattle.layout.specs.Check.{unaligned, check, checksOf}
 use Rattle.layout.specs.Layout.{tablesOf}
 use Rattle.layout.specs.Size.{l1Span, inputLimit}
-use Rattle.layout.specs.Window.{windowsOf, slot}
+use Rattle.layout.specs.Window.{devicesOf, windowsOf, slot}
 use Rattle.layout.specs.declared.Table.{Table}
 use Rattle.layout.specs.declared.Window.{Window}
+use Rattle.refusal.proofs.All.{all-at, all-map, all-both, pairs-map}
 use Rattle.refusal.proofs.None.{none, both, test, under, each-none, pairs-none}
-use Rattle.refusal.specs.All.{All, AllPairs}
 use Rattle.refusal.specs.Table.{each, pairs}
 use Rattle.rows.specs.Rows.{capped, row4, row5, row6, row7, row8, row9, row10, row11, overlap, row12, pairRows, windowRows, refusalsAt}
-use Rattle.accepted.specs.Accepted.{Nameable, Within, Disjoint, Apart, AcceptedFacts, NoInputOverlap}
+use Rattle.accepted.specs.Accepted.{Aligned, Nameable, Within, Disjoint, Apart, AcceptedFacts, NoInputOverlap}
 
 neither : (a b : Bool) → (a || b) ≡ false → (a ≡ false) × (b ≡ false)
 neither true b e = absurd (let z : _≡_ {A = ℕ} 0 1 = cc in omega arith)
@@ -86,38 +87,24 @@ no-input-overlap v w p q e f g = go (inputs v w p q e f (different v w g))
     go (inl h) = rw (le-ltb _ _ h) (and-false (ltb (v .ipa) (w .ipa + w .span)))
     go (inr h) = rw (le-ltb _ _ h)
 
--- the rows of lists
+-- of every window
 
-within-all :
-    (limit : ℕ) (ws : List Window) → All (λ w. row9 w ≡ []) ws → All (λ w. row10 limit w ≡ []) ws →
-    All (λ w. w .present ≡ true → Within limit w) ws
-within-all limit [] e f = tt
-within-all limit (w ∷ ws) e f = (one, within-all limit ws (e .1) (f .1))
-  where
-    one : w .present ≡ true → Within limit w
-    one p = let i = inside w p (e .0) in record { below = i .0; inside = i .1; output = output limit w p (f .0) }
-
-apart-from :
-    (v : Window) (ws : List Window) → row9 v ≡ [] → All (λ w. row9 w ≡ []) ws → All (λ w. pairRows v w ≡ []) ws →
-    All (λ w. v .present ≡ true → w .present ≡ true → Apart v w) ws
-apart-from v [] e f g = tt
-apart-from v (w ∷ ws) e f g = (apart v w e (f .0) (g .0), apart-from v ws e (f .1) (g .1))
-
-apart-all :
-    (ws : List Window) → All (λ w. row9 w ≡ []) ws → AllPairs (λ v w. pairRows v w ≡ []) ws →
-    AllPairs (λ v w. v .present ≡ true → w .present ≡ true → Apart v w) ws
-apart-all [] e f = tt
-apart-all (w ∷ ws) e f = (apart-from w ws (e .0) (e .1) (f .0), apart-all ws (e .1) (f .1))
+within : (limit : ℕ) (w : Window) → (row9 w ≡ []) × (row10 limit w ≡ []) → w .present ≡ true → Within limit w
+within limit w e p =
+    let i = inside w p (e .0) in record { below = i .0; inside = i .1; output = output limit w p (e .1) }
 
 aligned : (n unit : ℕ) → unaligned n unit ≡ false → n % unit ≡ 0
 aligned n unit e = eqb-true _ _ (not-false _ e)
 
-nameable-all : (limit : ℕ) (ts : List Table) → All (λ t. row7 limit t ≡ []) ts → All (Nameable limit) ts
+nameable : (limit : ℕ) (t : Table) → row7 limit t ≡ [] → t .present ≡ true → Nameable limit t
 unfolding row7
-nameable-all limit [] e = tt
-nameable-all limit (t ∷ ts) e =
-    let r = neither _ _ (test _ _ _ (e .0)) in
-    (record { below = leb-false _ _ (r .0); aligned = aligned _ _ (r .1) }, nameable-all limit ts (e .1))
+nameable limit t e p =
+    let r = neither _ _ (test _ _ _ (under (t .present) _ p e)) in
+    record { below = leb-false _ _ (r .0); aligned = aligned _ _ (r .1) }
+
+whole : (w : Window) → row4 w ≡ [] → Aligned (w .span)
+unfolding row4
+whole w e = aligned _ _ (test _ _ _ e)
 
 -- a check of row 6, where it applies
 checked :
@@ -128,11 +115,11 @@ checked n applies base align e p =
     let f : (applies && unaligned base align) ≡ false = test _ _ _ e in aligned base align (rw p at f)
 
 pub accepted-facts : AcceptedFacts
-unfolding refusalsAt windowRows flatMap row4 row5 row8
+unfolding refusalsAt windowRows flatMap row5 row8
 accepted-facts limit l e =
     let held = capped limit in
     let rows = none _ e in
-    let r4 = both (row4 l) _ rows in
+    let r4 = both (each row4 (devicesOf l)) _ rows in
     let r5 = both (row5 l) _ (r4 .1) in
     let r6 = both (each row6 (checksOf l)) _ (r5 .1) in
     let r7 = both (each (row7 held) (tablesOf l)) _ (r6 .1) in
@@ -141,19 +128,21 @@ accepted-facts limit l e =
     let r9 = both (each row9 (windowsOf l)) _ rest in
     let r10 = both (each (row10 held) (windowsOf l)) _ (r9 .1) in
     let r11 = both (pairs pairRows (windowsOf l)) [] (r10 .1) in
-    let within = each-none row9 (windowsOf l) (r9 .0) in
-    let six = each-none row6 (checksOf l) (r6 .0) in
+    let in-slots = each-none row9 (windowsOf l) (r9 .0) in
+    let in-reach = each-none (row10 held) (windowsOf l) (r10 .0) in
+    let passes = λ (k : ℕ) (h : k < length (checksOf l)).
+    all-at (λ c. row6 c ≡ []) (checksOf l) k (check 0 false 0 0) h (each-none row6 (checksOf l) (r6 .0)) in
     record {
-      device-len = aligned _ _ (test _ _ _ (r4 .0));
+      lengths = all-map (λ w. row4 w ≡ []) _ whole (devicesOf l) (each-none row4 (devicesOf l) (r4 .0));
       frame-size = eqb-true _ _ (not-false _ (test _ _ _ (r5 .0)));
-      data-ipa = checked 1 true _ _ (six .0) refl;
-      data-pa = checked 2 true _ _ (six .1 .0) refl;
-      sup-ipa = checked 3 true _ _ (six .1 .1 .0) refl;
-      sup-pa = checked 4 true _ _ (six .1 .1 .1 .0) refl;
-      image = checked 5 _ _ _ (six .1 .1 .1 .1 .0);
-      device = checked 6 _ _ _ (six .1 .1 .1 .1 .1 .0);
-      tables = nameable-all held (tablesOf l) (each-none (row7 held) (tablesOf l) (r7 .0));
+      data-ipa = checked 1 true _ _ (passes 0 (omega arith)) refl;
+      data-pa = checked 2 true _ _ (passes 1 (omega arith)) refl;
+      sup-ipa = checked 3 true _ _ (passes 2 (omega arith)) refl;
+      sup-pa = checked 4 true _ _ (passes 3 (omega arith)) refl;
+      image = checked 5 _ _ _ (passes 4 (omega arith));
+      devices = (checked 6 _ _ _ (passes 5 (omega arith)), tt);
+      tables = all-map (λ t. row7 held t ≡ []) _ (nameable held) (tablesOf l) (each-none (row7 held) (tablesOf l) (r7 .0));
       frames = leb-false _ _ (test _ _ _ (r8 .0));
-      windows = within-all held (windowsOf l) within (each-none (row10 held) (windowsOf l) (r10 .0));
-      apart = apart-all (windowsOf l) within (pairs-none pairRows (windowsOf l) (r11 .0));
+      windows = all-map _ _ (within held) (windowsOf l) (all-both (λ w. row9 w ≡ []) (λ w. row10 held w ≡ []) (windowsOf l) in-slots in-reach);
+      apart = pairs-map (λ w. row9 w ≡ []) _ _ apart (windowsOf l) in-slots (pairs-none pairRows (windowsOf l) (r11 .0));
     }

@@ -1,7 +1,7 @@
 -- Where encoding or an update is let by, maps, tables and supers have the facts of rows 1 to 14.
 use Prim.Native.Nat.{ℕ, _<_}
-use mathlib.Core.Bool.{false, not, _&&_}
-use mathlib.Core.List.{List, [], _∷_, flatMap}
+use mathlib.Core.Bool.{true, false, not, _&&_}
+use mathlib.Core.List.{List, [], flatMap}
 use mathlib.Core.Path.{_≡_}
 use lib.Dec.{eqb, leb}
 use lib.ListN.{length, getD}
@@ -10,11 +10,11 @@ use Rattle.layout.specs.Layout.{tablesOf}
 use Rattle.layout.specs.Size.{arenaLength}
 use Rattle.layout.specs.declared.Layout.{Layout}
 use Rattle.layout.specs.declared.Table.{Table}
-use Rattle.refusal.proofs.None.{none, accept, both, test, pairs-none, from-none}
-use Rattle.refusal.specs.All.{All, AllPairs}
+use Rattle.refusal.proofs.All.{all-always, pairs-map}
+use Rattle.refusal.proofs.None.{none, accept, both, test, under, pairs-none, from-none}
 use Rattle.refusal.specs.Table.{accepted, first, eachFrom, pairs}
 use Rattle.rows.specs.Rows.{row13, row14, guardRows, arenaGuardRows, row1, row2, row3, lengthRows, mapRows, refusalsAt}
-use Rattle.accepted.specs.Guarded.{Readable, GuardedFacts, ArenaGuardedFacts}
+use Rattle.accepted.specs.Guarded.{Readable, Distinct, GuardedFacts, ArenaGuardedFacts}
 use Rattle.accepted.proofs.Accepted.{accepted-facts}
 
 readable : (code : ℕ) (map : List ℕ) → row2 map ≡ [] → eachFrom (row3 code) 0 map ≡ [] → Readable map
@@ -25,14 +25,11 @@ readable code map e f =
       codes = λ p h. ltb-false _ _ (test _ _ _ (from-none (row3 code) map 0 f p h));
     }
 
-distinct-from : (s : Table) (ts : List Table) → All (λ t. row13 s t ≡ []) ts → All (λ t. s .pa ≡ t .pa → ⊥) ts
+distinct : (s t : Table) → row13 s t ≡ [] → Distinct s t
 unfolding row13
-distinct-from s [] e = tt
-distinct-from s (t ∷ ts) e = (eqb-false _ _ (test _ _ _ (e .0)), distinct-from s ts (e .1))
-
-distinct-all : (ts : List Table) → AllPairs (λ s t. row13 s t ≡ []) ts → AllPairs (λ s t. s .pa ≡ t .pa → ⊥) ts
-distinct-all [] e = tt
-distinct-all (t ∷ ts) e = (distinct-from t ts (e .0), distinct-all ts (e .1))
+distinct s t e p q =
+    let there : (s .present && t .present) ≡ true = rw (p, q) in
+    eqb-false _ _ (test _ _ _ (under (s .present && t .present) _ there e))
 
 backed :
     (frames : ℕ) (sup : List ℕ) → eachFrom (row14 frames) 0 sup ≡ [] →
@@ -55,7 +52,8 @@ guarded-facts limit base sup l e =
       base-map = readable 1 base (r2 .0) (codes .0);
       sup-map = readable 2 sup (both (row2 sup) [] (r2 .1) .0) (both (eachFrom (row3 2) 0 sup) [] (codes .1) .0);
       layout = accepted-facts limit l (accept _ (valid .0));
-      distinct = distinct-all (tablesOf l) (pairs-none row13 (tablesOf l) (r13 .0));
+      distinct =
+          pairs-map (λ t. Unit) _ Distinct (λ s t a b. distinct s t) (tablesOf l) (all-always _ (λ t. tt) (tablesOf l)) (pairs-none row13 (tablesOf l) (r13 .0));
       backed = backed (l .«sup_frames») sup (both (eachFrom (row14 (l .«sup_frames»)) 0 sup) [] (r13 .1) .0);
     }
 

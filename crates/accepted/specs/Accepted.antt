@@ -6,13 +6,17 @@ use mathlib.Core.Logic.{_⊎_}
 use mathlib.Core.Path.{_≡_}
 use Rattle.layout.specs.Layout.{tablesOf}
 use Rattle.layout.specs.Size.{page, block, l1Span, inputLimit, uncountable}
-use Rattle.layout.specs.Window.{imageWindow, deviceWindow, windowsOf, slot}
+use Rattle.layout.specs.Window.{imageWindow, devicesOf, windowsOf, slot}
 use Rattle.layout.specs.declared.Layout.{Layout}
 use Rattle.layout.specs.declared.Table.{Table}
 use Rattle.layout.specs.declared.Window.{Window}
 use Rattle.refusal.specs.All.{All, AllPairs}
 use Rattle.refusal.specs.Table.{accepted, first}
 use Rattle.rows.specs.Rows.{capped, refusalsAt, overlap, row9, row11}
+
+-- a block of 2 MiB begins there
+abbrev pub Aligned : ℕ → Type 0
+Aligned n = n % block ≡ 0
 
 -- a table's address can be named
 pub record Nameable (limit : ℕ) (t : Table) : Type 0 where
@@ -35,15 +39,15 @@ pub record Apart (v w : Window) : Type 0 where
   pub outputs : Disjoint (v .pa) (v .span) (w .pa) (w .span)
 
 pub record Accepted (limit : ℕ) (l : Layout) : Type 0 where
-  pub device-len : l .«device_len» % block ≡ 0
+  pub lengths : All (λ w. Aligned (w .span)) (devicesOf l)
   pub frame-size : l .«frame_size» ≡ page
-  pub data-ipa : l .«data_ipa_base» % block ≡ 0
+  pub data-ipa : Aligned (l .«data_ipa_base»)
   pub data-pa : l .«data_pa_base» % page ≡ 0
-  pub sup-ipa : l .«sup_ipa_base» % block ≡ 0
-  pub sup-pa : l .«sup_pa_base» % block ≡ 0
-  pub image : imageWindow (l .«guest_image_pa») .present ≡ true → imageWindow (l .«guest_image_pa») .ipa % block ≡ 0
-  pub device : deviceWindow l .present ≡ true → l .«device_base» % block ≡ 0
-  pub tables : All (Nameable limit) (tablesOf l)
+  pub sup-ipa : Aligned (l .«sup_ipa_base»)
+  pub sup-pa : Aligned (l .«sup_pa_base»)
+  pub image : imageWindow (l .«guest_image_pa») .present ≡ true → Aligned (imageWindow (l .«guest_image_pa») .ipa)
+  pub devices : All (λ w. w .present ≡ true → Aligned (w .ipa)) (devicesOf l)
+  pub tables : All (λ t. t .present ≡ true → Nameable limit t) (tablesOf l)
   pub frames : l .«sup_frames» < uncountable
   pub windows : All (λ w. w .present ≡ true → Within limit w) (windowsOf l)
   pub apart : AllPairs (λ v w. v .present ≡ true → w .present ≡ true → Apart v w) (windowsOf l)

@@ -7,7 +7,7 @@ use lib.ListN.{length, replicate, length-replicate}
 use borrow.Author.Tests.{eq-eqb}
 use Rattle.arena.specs.Encoded.{target}
 use Rattle.encode.specs.Encoding.{Encoding}
-use Rattle.layout.specs.Size.{outputLimit, arenaLength}
+use Rattle.layout.specs.Size.{dumpLimit, arenaLength}
 use Rattle.layout.specs.declared.Layout.{Layout}
 use Rattle.printed.specs.Line.{badLine, refusedLine}
 use Rattle.refusal.specs.Table.{Row, Outcome, accepted, refused, first}
@@ -35,16 +35,16 @@ let-by limit arena base sup l e = rw (eq-eqb _ _ e) (ap first (append-nil (guard
 
 module _ (l : Layout) (base sup new : List ℕ) where
   abbrev pub Encodes : Outcome → Type 0
-  Encodes outcome = Encoding outputLimit l base sup (replicate arenaLength 0) outcome new
+  Encodes outcome = Encoding dumpLimit l base sup (replicate arenaLength 0) outcome new
 
   abbrev pub Printed : Answer → Type 0
-  Printed answer = pieces answer new ≡ printedBy (first (guardRows outputLimit base sup l)) (target l base sup)
+  Printed answer = pieces answer new ≡ printedBy (first (guardRows dumpLimit base sup l)) (target l base sup)
 
   zeros-long : _≡_ {A = ℕ} (length {A = ℕ} (replicate arenaLength 0)) arenaLength
   zeros-long = length-replicate {A = ℕ} arenaLength 0
 
-  decided : (outcome : Outcome) → Encodes outcome → outcome ≡ first (guardRows outputLimit base sup l)
-  decided outcome e = e .answer ∙ let-by outputLimit (replicate arenaLength 0) base sup l zeros-long
+  decided : (outcome : Outcome) → Encodes outcome → outcome ≡ first (guardRows dumpLimit base sup l)
+  decided outcome e = e .answer ∙ let-by dumpLimit (replicate arenaLength 0) base sup l zeros-long
 
   long : (outcome : Outcome) → Encodes outcome → length new ≡ arenaLength
   long outcome e = e .words .long ∙ zeros-long
@@ -52,7 +52,7 @@ module _ (l : Layout) (base sup new : List ℕ) where
   pub words-pieces : Encodes accepted → Printed Words
   unfolding pieceAt
   words-pieces e =
-      let word = from-zeros outputLimit l base sup new e .word in
+      let word = from-zeros dumpLimit l base sup new e .word in
       ap (inOrder (pieceAt Words new) 0) (long accepted e)
       ∙ same-texts (pieceAt Words new) (λ i. lineAt i (target l base sup i)) 0 arenaLength
       (λ i less. ap (lineAt i) (word i (omega (arith, less, zeros-long))))

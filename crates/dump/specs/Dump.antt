@@ -5,7 +5,7 @@ use lib.Dec.{eqb}
 use Rattle.arena.specs.Encoded.{tableOf, indexOf, target}
 use Rattle.fields.specs.Named.{pick}
 use Rattle.layout.specs.Layout.{layoutOf}
-use Rattle.layout.specs.Size.{outputLimit, arenaLength}
+use Rattle.layout.specs.Size.{dumpLimit, arenaLength}
 use Rattle.printed.specs.Line.{badLine as badLineText, refusedLine}
 use Rattle.printed.specs.Word.{wordLine}
 use Rattle.refusal.specs.Table.{Outcome, accepted, refused, first}
@@ -31,7 +31,7 @@ printedBy accepted word = inOrder (λ i. lineAt i (word i)) 0 arenaLength
 unfoldable pub printedOf : Scene → List ℕ
 printedOf s =
     let l = layoutOf (s .numbers) in
-    printedBy (first (guardRows outputLimit (s .base) (s .sup) l)) (target l (s .base) (s .sup))
+    printedBy (first (guardRows dumpLimit (s .base) (s .sup) l)) (target l (s .base) (s .sup))
 
 abbrev pub printedRead : Read → List ℕ
 printedRead (whole s) = printedOf s

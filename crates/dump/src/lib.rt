@@ -43,7 +43,7 @@ impl Dump {
     {
         let mut words = [0; Layout::ARENA_LEN];
         let l = Layout::of(numbers);
-        let verdict = encode::encode_at(Layout::OUTPUT_LIMIT, &mut words, base, sup, l);
+        let verdict = encode::encode_at(Layout::DUMP_LIMIT, &mut words, base, sup, l);
         let Verdict::Refused(refusal) = verdict else {
             return Self {
                 answer: Answer::Words,

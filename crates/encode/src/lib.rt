@@ -10,14 +10,14 @@ ghost use Rattle.arena.specs.Encoded.{imageRuns, dataRuns, superRuns, deviceRun
 ghost use Rattle.arena.specs.Over.{Over};
 ghost use Rattle.encode.specs.Encoding.{Encoding};
 ghost use Rattle.encode.specs.Fits.{SupersFit, DevicesFit};
-ghost use Rattle.layout.specs.Size.{entries, outputLimit, arenaLength};
+ghost use Rattle.layout.specs.Size.{entries, boardLimit, arenaLength};
 ghost use Rattle.refusal.specs.Outcome.{outcomeOf};
 
 // Rows 1 to 14 come before the first store.
 pub fn encode(arena: &mut [u64], base: &[u8], sup: &[u8], l: Layout) -> Verdict
-    ensures { λ r. ⌜ Encoding outputLimit l (now (base .entry)) (now (sup .entry)) (now (arena .entry)) (outcomeOf r) (now (arena .exit)) ⌝ }
+    ensures { λ r. ⌜ Encoding boardLimit l (now (base .entry)) (now (sup .entry)) (now (arena .entry)) (outcomeOf r) (now (arena .exit)) ⌝ }
 {
-    encode_at(Layout::OUTPUT_LIMIT, arena, base, sup, l)
+    encode_at(Layout::BOARD_LIMIT, arena, base, sup, l)
 }
 
 // The same where tables and outputs lie below a limit of the caller's.

@@ -18,7 +18,7 @@ use Rattle.exposed.specs.declared.Exposure.the-variants.{Table as Lies, 
 
 -- a table begins in the output of a window that is present; both are whole pages, so that it lies there whole
 abbrev pub liesIn : Table → Window → Bool
-liesIn t w = w .present && leb (w .pa) (t .pa) && ltb (t .pa) (w .pa + w .span)
+liesIn t w = t .present && w .present && leb (w .pa) (t .pa) && ltb (t .pa) (w .pa + w .span)
 
 -- the lowest window
 unfoldable pub firstWindow : Table → List Window → Exposure

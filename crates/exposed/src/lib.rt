@@ -77,6 +77,9 @@ fn first_window(t: Table, ws: [Window; Layout::WINDOWS]) -> Exposure
 fn lies_in(t: Table, w: Window) -> bool
     ensures { λ r. ⌜ r ≡ liesIn t w ⌝ }
 {
+    if !t.present {
+        return false;
+    }
     if !w.present {
         return false;
     }

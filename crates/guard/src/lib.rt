@@ -8,16 +8,16 @@ ghost use mathlib.Core.Bool.{true};
 ghost use mathlib.Core.List.{[]};
 ghost use mathlib.Core.Path.{_≡_};
 ghost use lib.ListN.{drop, getD};
-ghost use Rattle.layout.specs.Size.{outputLimit};
+ghost use Rattle.layout.specs.Size.{boardLimit};
 ghost use Rattle.refusal.specs.Outcome.{outcomeOf};
 ghost use Rattle.refusal.specs.Table.{first, each, eachFrom, pairs};
 ghost use Rattle.rows.specs.Rows.{row13, row14, guardRows, arenaGuardRows};
 
 // Rows 1 to 14.
 pub fn guard(arena: &[u64], base: &[u8], sup: &[u8], l: Layout) -> Verdict
-    ensures { λ r. ⌜ outcomeOf r ≡ first (arenaGuardRows outputLimit (now (arena .entry)) (now (base .entry)) (now (sup .entry)) l) ⌝ }
+    ensures { λ r. ⌜ outcomeOf r ≡ first (arenaGuardRows boardLimit (now (arena .entry)) (now (base .entry)) (now (sup .entry)) l) ⌝ }
 {
-    guard_at(Layout::OUTPUT_LIMIT, arena, base, sup, l)
+    guard_at(Layout::BOARD_LIMIT, arena, base, sup, l)
 }
 
 // The same where tables and outputs lie below a limit of the caller's.
@@ -63,18 +63,34 @@ fn all_distinct(ts: [Table; Layout::TABLES]) -> Verdict
     Verdict::Accepted
 }
 
-// Row 13, of a table and those from the given one on.
+// A table and those from the given one on.
 fn distinct_from(t: Table, ts: [Table; Layout::TABLES], from: usize) -> Verdict
     ensures { λ r. ⌜ outcomeOf r ≡ first (each (row13 t) (drop from ts)) ⌝ }
 {
     for i in from..Layout::TABLES {
-        let other = ts[i];
-        if t.pa == other.pa {
-            return Verdict::Refused(Refusal::TablesEqual {
-                first: t.code,
-                second: other.code,
-            });
-        }
+        let verdict = distinct(t, ts[i]);
+        let Verdict::Accepted = verdict else {
+            return verdict;
+        };
+    }
+    Verdict::Accepted
+}
+
+// Row 13.
+fn distinct(s: Table, t: Table) -> Verdict
+    ensures { λ r. ⌜ outcomeOf r ≡ first (row13 s t) ⌝ }
+{
+    if !s.present {
+        return Verdict::Accepted;
+    }
+    if !t.present {
+        return Verdict::Accepted;
+    }
+    if s.pa == t.pa {
+        return Verdict::Refused(Refusal::TablesEqual {
+            first: s.code,
+            second: t.code,
+        });
     }
     Verdict::Accepted
 }

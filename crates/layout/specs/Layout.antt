@@ -1,5 +1,6 @@
 -- The layout's fields as numbers, and its tables.
 use Prim.Native.Nat.{ℕ, _-_}
+use mathlib.Core.Bool.{Bool, true}
 use mathlib.Core.List.{List, [], _∷_}
 use lib.Dec.{eqb, ltb}
 use lib.ListN.{getD}
@@ -47,8 +48,11 @@ imageField = 7
 abbrev pub fieldAt : ℕ → ℕ
 fieldAt n = pick (ltb n imageField) (n - 1) n
 
+abbrev pub tableIf : ℕ → Bool → ℕ → Table
+tableIf n present pa = record { code = n; present = present; pa = pa }
+
 abbrev pub tableAt : ℕ → ℕ → Table
-tableAt n pa = record { code = n; pa = pa }
+tableAt n pa = tableIf n true pa
 
 -- l1, l2_code, l2_data, l3_data, l2_sup, l2_dev: tables 1 to 6
 abbrev pub tablesOf : Layout → List Table

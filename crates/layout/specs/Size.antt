@@ -22,6 +22,13 @@ inputLimit = entries * l1Span
 abbrev pub outputLimit : ℕ
 outputLimit = 2 ^ 48
 
+-- what tables and outputs of a board's layout lie below, and those of a dumped one
+abbrev pub boardLimit : ℕ
+boardLimit = outputLimit
+
+abbrev pub dumpLimit : ℕ
+dumpLimit = outputLimit
+
 -- the first count of blocks whose length leaves 64 bits
 abbrev pub uncountable : ℕ
 uncountable = 2 ^ 43

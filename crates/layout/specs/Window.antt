@@ -35,9 +35,12 @@ superCounted l = pick (leb uncountable (l .«sup_frames»)) Uncountable (Counted
 abbrev pub deviceWindow : Layout → Window
 deviceWindow l = window 4 (ltb 0 (l .«device_len»)) (l .«device_base») (l .«device_base») (l .«device_len»)
 
+abbrev pub devicesOf : Layout → List Window
+devicesOf l = deviceWindow l ∷ []
+
 -- image, data, super, device: the order of every check
 abbrev pub windowsWith : Layout → Window → List Window
-windowsWith l sup = imageWindow (l .«guest_image_pa») ∷ dataWindow l ∷ sup ∷ deviceWindow l ∷ []
+windowsWith l sup = imageWindow (l .«guest_image_pa») ∷ dataWindow l ∷ sup ∷ devicesOf l
 
 abbrev pub windowsOf : Layout → List Window
 windowsOf l = windowsWith l (superWindow l)

@@ -1,9 +1,10 @@
 // Where the tables stand and what they map (hv-s2's arm64.rs).
 ghost use Prim.Native.Nat.{_<_};
 ghost use mathlib.Core.Path.{_≡_};
+ghost use Rattle.layout.specs.Area.{areasOf, liveAreasOf, areaSlot, areaHas};
 ghost use Rattle.layout.specs.Check.{check, checksOf};
 ghost use Rattle.layout.specs.Layout.{layoutOf, imageOf, tablesOf};
-ghost use Rattle.layout.specs.Window.{imageWindow, dataWindow, superCounted, deviceWindow, l1Slot, l2Slot, slot};
+ghost use Rattle.layout.specs.Window.{imageWindow, dataWindow, superCounted, deviceWindow, devicesOf, l1Slot, l2Slot, slot};
 
 // The address of the guest image, to which it is mapped itself; absent where a guest's code lies in its own memory.
 pub enum GuestImage {
@@ -31,9 +32,10 @@ pub struct Layout {
     pub sup_frames: u64,
 }
 
-// A table's code, 1 to 6, and its address.
+// A table's code, 1 to 6, and its address, if it is present.
 pub struct Table {
     pub code: u64,
+    pub present: bool,
     pub pa: u64,
 }
 
@@ -44,6 +46,13 @@ pub struct Window {
     pub ipa: u64,
     pub pa: u64,
     pub span: u64,
+}
+
+// What has a word in table 1, if it is present: its first address has the slot, and the word names its table.
+pub struct Area {
+    pub present: bool,
+    pub ipa: u64,
+    pub table: u64,
 }
 
 // The super window, if 64 bits hold its length.
@@ -75,6 +84,10 @@ impl Layout {
     pub const ADDRESSABLE: u64 = Self::INDICES * Self::L1_ENTRY_SIZE;
     // The first address that a descriptor cannot hold.
     pub const OUTPUT_LIMIT: u64 = 0x1_0000_0000_0000;
+    // What tables and outputs of a board's layout lie below, and those of a dumped one.
+    pub const BOARD_LIMIT: u64 = Self::OUTPUT_LIMIT;
+
+    pub const DUMP_LIMIT: u64 = Self::OUTPUT_LIMIT;
     // The first count of blocks whose length leaves 64 bits.
     pub const UNCOUNTABLE: u64 = 0x800_0000_0000;
 
@@ -86,6 +99,8 @@ impl Layout {
     pub const ARENA_LEN: usize = Self::TABLES * Self::ENTRIES;
 
     pub const WINDOWS: usize = 4;
+    // Of these, the last.
+    pub const DEVICES: usize = 1;
     // Row 6's.
     pub const CHECKS: usize = 6;
     // The fields, and whether there is an image.
@@ -122,29 +137,73 @@ impl Layout {
         [
             Table {
                 code: 1,
+                present: true,
                 pa: self.l1_pa,
             },
             Table {
                 code: 2,
+                present: true,
                 pa: self.l2_code_pa,
             },
             Table {
                 code: 3,
+                present: true,
                 pa: self.l2_data_pa,
             },
             Table {
                 code: 4,
+                present: true,
                 pa: self.l3_data_pa,
             },
             Table {
                 code: 5,
+                present: true,
                 pa: self.l2_sup_pa,
             },
             Table {
                 code: 6,
+                present: true,
                 pa: self.l2_dev_pa,
             },
         ]
+    }
+
+    // Image, data, super, device.
+    pub fn areas(self) -> [Area; Self::WINDOWS]
+        ensures { λ r. ⌜ r ≡ areasOf self ⌝ }
+    {
+        let image_pa = self.guest_image_pa;
+        let image = image_pa.window();
+        [
+            Area {
+                present: image.present,
+                ipa: image.ipa,
+                table: self.l2_code_pa,
+            },
+            Area {
+                present: true,
+                ipa: self.data_ipa_base,
+                table: self.l2_data_pa,
+            },
+            Area {
+                present: true,
+                ipa: self.sup_ipa_base,
+                table: self.l2_sup_pa,
+            },
+            Area {
+                present: 0 < self.device_len,
+                ipa: self.device_base,
+                table: self.l2_dev_pa,
+            },
+        ]
+    }
+
+    // The same in verification's order: data, super, image, device.
+    pub fn live_areas(self) -> [Area; Self::WINDOWS]
+        ensures { λ r. ⌜ r ≡ liveAreasOf self ⌝ }
+    {
+        let areas = self.areas();
+        [areas[1], areas[2], areas[0], areas[3]]
     }
 
     // Row 6's six checks, in their order.
@@ -218,6 +277,12 @@ impl Layout {
             span: self.device_len,
         }
     }
+
+    pub fn devices(self) -> [Window; Self::DEVICES]
+        ensures { λ r. ⌜ r ≡ devicesOf self ⌝ }
+    {
+        [self.device_window()]
+    }
 }
 
 impl GuestImage {
@@ -259,6 +324,24 @@ impl Window {
         ensures { λ r. ⌜ r ≡ slot self ⌝ }
     {
         Layout::l1_index(self.ipa)
+    }
+}
+
+impl Area {
+    pub fn l1_index(self) -> u64
+        ensures { λ r. ⌜ r ≡ areaSlot self ⌝ }
+    {
+        Layout::l1_index(self.ipa)
+    }
+
+    // Whether it has the word at this index of table 1.
+    pub fn has(self, j: u64) -> bool
+        ensures { λ r. ⌜ r ≡ areaHas self j ⌝ }
+    {
+        if !self.present {
+            return false;
+        }
+        self.l1_index() == j
     }
 }
 

@@ -1,3 +1,4 @@
+pub mod All
 pub mod Carried
 pub mod First
 pub mod None

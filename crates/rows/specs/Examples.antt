@@ -4,7 +4,7 @@ use mathlib.Core.List.{List, [], _∷_}
 use mathlib.Core.Path.{_≡_}
 use lib.ListN.{replicate, set}
 use Rattle.layout.specs.Layout.{layoutOf, fieldAt}
-use Rattle.layout.specs.Size.{block, outputLimit}
+use Rattle.layout.specs.Size.{block, boardLimit, arenaLength}
 use Rattle.refusal.specs.Table.{row, Outcome, accepted, refused, first}
 use Rattle.rows.specs.Rows.{arenaGuardRows, refusalsAt, refusals}
 
@@ -44,13 +44,13 @@ abbrev pub validated : List ℕ → Outcome
 validated x = first (refusals (layoutOf x))
 
 abbrev pub guarded : ℕ → List ℕ → List ℕ → List ℕ → Outcome
-guarded words base sup x = first (arenaGuardRows outputLimit (replicate words 0) base sup (layoutOf x))
+guarded words base sup x = first (arenaGuardRows boardLimit (replicate words 0) base sup (layoutOf x))
 
 -- where several rows apply, the first is the answer
 pub record Ordered : Type 0 where
-  pub one-two : guarded 3071 (replicate 513 0) supS sceneS ≡ refused (row 1 [])
-  pub two-three : guarded 3072 (0 ∷ 4 ∷ []) (replicate 513 0) sceneS ≡ refused (row 2 [])
-  pub three-four : guarded 3072 baseS (4 ∷ []) (line 0xE 4096 sceneS) ≡ refused (row 3 (2 ∷ 0 ∷ []))
+  pub one-two : guarded (arenaLength - 1) (replicate 513 0) supS sceneS ≡ refused (row 1 [])
+  pub two-three : guarded arenaLength (0 ∷ 4 ∷ []) (replicate 513 0) sceneS ≡ refused (row 2 [])
+  pub three-four : guarded arenaLength baseS (4 ∷ []) (line 0xE 4096 sceneS) ≡ refused (row 3 (2 ∷ 0 ∷ []))
   pub four-five : validated (line 0xE 4096 (line 0xA 0 sceneS)) ≡ refused (row 4 (0x900_0000 ∷ 4096 ∷ []))
   pub five-six : validated (line 0xA 0 (line 8 1 sceneS)) ≡ refused (row 5 (0 ∷ []))
   pub six-seven : validated (line 8 1 (line 1 1 sceneS)) ≡ refused (row 6 (1 ∷ 1 ∷ block ∷ []))
@@ -61,16 +61,16 @@ pub record Ordered : Type 0 where
   pub eleven-twelve : validated (line 0xB 0x8020_0000 (line 0xC 0x5000_0000 sceneS)) ≡ refused (row 11 (2 ∷ []))
   pub pair-by-pair : validated (line 0xC 0x5000_0000 (line 0xD 0xC080_0000 sceneS)) ≡ refused (row 12 [])
   pub twelve-thirteen :
-      guarded 3072 baseS supS (line 0xC 0x5000_0000 (line 6 0x4000_0000 sceneS)) ≡ refused (row 12 [])
+      guarded arenaLength baseS supS (line 0xC 0x5000_0000 (line 6 0x4000_0000 sceneS)) ≡ refused (row 12 [])
   pub thirteen-fourteen :
-      guarded 3072 baseS (0 ∷ 0 ∷ 0 ∷ 0 ∷ 1 ∷ []) (line 6 0x4000_0000 sceneS) ≡ refused (row 13 (1 ∷ 6 ∷ []))
-  pub base-super : guarded 3072 (4 ∷ []) (4 ∷ []) sceneS ≡ refused (row 3 (1 ∷ 0 ∷ []))
+      guarded arenaLength baseS (0 ∷ 0 ∷ 0 ∷ 0 ∷ 1 ∷ []) (line 6 0x4000_0000 sceneS) ≡ refused (row 13 (1 ∷ 6 ∷ []))
+  pub base-super : guarded arenaLength (4 ∷ []) (4 ∷ []) sceneS ≡ refused (row 3 (1 ∷ 0 ∷ []))
 
 pub record Examples : Type 0 where
-  pub S : guarded 3072 baseS supS sceneS ≡ accepted
-  pub row1 : guarded 3071 baseS supS sceneS ≡ refused (row 1 [])
-  pub row2 : guarded 3072 (replicate 513 0) supS sceneS ≡ refused (row 2 [])
-  pub row3 : guarded 3072 (0 ∷ 4 ∷ []) supS sceneS ≡ refused (row 3 (1 ∷ 1 ∷ []))
+  pub S : guarded arenaLength baseS supS sceneS ≡ accepted
+  pub row1 : guarded (arenaLength - 1) baseS supS sceneS ≡ refused (row 1 [])
+  pub row2 : guarded arenaLength (replicate 513 0) supS sceneS ≡ refused (row 2 [])
+  pub row3 : guarded arenaLength (0 ∷ 4 ∷ []) supS sceneS ≡ refused (row 3 (1 ∷ 1 ∷ []))
   pub row4 : validated (line 0xE 4096 sceneS) ≡ refused (row 4 (0x900_0000 ∷ 4096 ∷ []))
   pub row5 : validated (line 0xA 16384 sceneS) ≡ refused (row 5 (16384 ∷ []))
   pub row6 : validated (line 0xC 0x6000_1000 sceneS) ≡ refused (row 6 (4 ∷ 0x6000_1000 ∷ block ∷ []))
@@ -80,8 +80,8 @@ pub record Examples : Type 0 where
   pub row10 : validated (line 9 (2 ^ 48 - 4096) sceneS) ≡ refused (row 10 (2 ∷ (2 ^ 48 - 4096) ∷ []))
   pub row11 : validated (line 0xB 0x8020_0000 sceneS) ≡ refused (row 11 (2 ∷ []))
   pub row12 : validated (line 0xC 0x5000_0000 sceneS) ≡ refused (row 12 [])
-  pub row13 : guarded 3072 baseS supS (line 6 0x4000_0000 sceneS) ≡ refused (row 13 (1 ∷ 6 ∷ []))
-  pub row14 : guarded 3072 baseS (0 ∷ 0 ∷ 3 ∷ 0 ∷ 1 ∷ []) sceneS ≡ refused (row 14 (4 ∷ []))
+  pub row13 : guarded arenaLength baseS supS (line 6 0x4000_0000 sceneS) ≡ refused (row 13 (1 ∷ 6 ∷ []))
+  pub row14 : guarded arenaLength baseS (0 ∷ 0 ∷ 3 ∷ 0 ∷ 1 ∷ []) sceneS ≡ refused (row 14 (4 ∷ []))
   -- the most frames that row 8 lets by
   pub row8-edge : validated (line 0x10 (2 ^ 43 - 1) sceneS) ≡ refused (row 9 (3 ∷ (2 ^ 43 - 1) * block ∷ []))
   pub frames512 : validated (line 0x10 512 sceneS) ≡ accepted

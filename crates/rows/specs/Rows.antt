@@ -7,8 +7,8 @@ use lib.ListN.{length}
 use Rattle.fields.specs.Named.{pick}
 use Rattle.layout.specs.Check.{unaligned, checksOf}
 use Rattle.layout.specs.Layout.{tablesOf}
-use Rattle.layout.specs.Size.{entries, page, block, l1Span, inputLimit, outputLimit, uncountable, arenaLength}
-use Rattle.layout.specs.Window.{windowsOf, slot}
+use Rattle.layout.specs.Size.{entries, page, block, l1Span, inputLimit, outputLimit, boardLimit, uncountable, arenaLength}
+use Rattle.layout.specs.Window.{devicesOf, windowsOf, slot}
 use Rattle.layout.specs.declared.Check.{Check}
 use Rattle.layout.specs.declared.Layout.{Layout}
 use Rattle.layout.specs.declared.Table.{Table}
@@ -27,9 +27,9 @@ row2 map = refuseIf (ltb entries (length map)) 2 []
 unfoldable pub row3 : ℕ → ℕ → ℕ → List Row
 row3 code p byte = refuseIf (ltb 3 byte) 3 (code ∷ p ∷ [])
 
--- row 4: device_len not k × 2 MiB
-unfoldable pub row4 : Layout → List Row
-row4 l = refuseIf (unaligned (l .«device_len») block) 4 (l .«device_base» ∷ l .«device_len» ∷ [])
+-- row 4: device_len not k × 2 MiB; of a device's window
+unfoldable pub row4 : Window → List Row
+row4 w = refuseIf (unaligned (w .span) block) 4 (w .ipa ∷ w .span ∷ [])
 
 -- row 5: frame_size not 4,096
 unfoldable pub row5 : Layout → List Row
@@ -41,7 +41,8 @@ row6 c = refuseIf (c .fails) 6 (c .code ∷ c .base ∷ c .align ∷ [])
 
 -- row 7: table address at or past the limit or not k × 4,096
 unfoldable pub row7 : ℕ → Table → List Row
-row7 limit t = refuseIf (leb limit (t .pa) || unaligned (t .pa) page) 7 (t .code ∷ t .pa ∷ [])
+row7 limit t =
+    given (t .present) (refuseIf (leb limit (t .pa) || unaligned (t .pa) page) 7 (t .code ∷ t .pa ∷ []))
 
 -- row 8: sup_frames ≥ 2^43
 unfoldable pub row8 : Layout → List Row
@@ -71,7 +72,7 @@ row12 v w = refuseIf (overlap (v .pa) (v .span) (w .pa) (w .span)) 12 []
 
 -- row 13: two equal table addresses
 unfoldable pub row13 : Table → Table → List Row
-row13 s t = refuseIf (eqb (s .pa) (t .pa)) 13 (s .code ∷ t .code ∷ [])
+row13 s t = given (s .present && t .present) (refuseIf (eqb (s .pa) (t .pa)) 13 (s .code ∷ t .code ∷ []))
 
 -- row 14: super mapped at or past sup_frames, by its position
 unfoldable pub row14 : ℕ → ℕ → ℕ → List Row
@@ -105,7 +106,7 @@ capped limit = pick (ltb outputLimit limit) outputLimit limit
 unfoldable pub refusalsAt : ℕ → Layout → List Row
 refusalsAt limit l =
     table
-    (row4 l
+    (each row4 (devicesOf l)
     ∷ row5 l
     ∷ each row6 (checksOf l)
     ∷ each (row7 (capped limit)) (tablesOf l)
@@ -114,7 +115,7 @@ refusalsAt limit l =
     ∷ [])
 
 abbrev pub refusals : Layout → List Row
-refusals l = refusalsAt outputLimit l
+refusals l = refusalsAt boardLimit l
 
 -- where no arena is lent: 2 and 3, then 4 to 12, then 13, then 14
 unfoldable pub guardRows : ℕ → List ℕ → List ℕ → Layout → List Row

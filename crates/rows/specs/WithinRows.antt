@@ -4,7 +4,7 @@ use mathlib.Core.List.{List, [], _∷_}
 use mathlib.Core.Path.{_≡_}
 use lib.ListN.{getD, set}
 use Rattle.layout.specs.Layout.{layoutOf, imageField, fieldAt}
-use Rattle.layout.specs.Size.{page, block, l1Span, inputLimit}
+use Rattle.layout.specs.Size.{page, block, l1Span, inputLimit, arenaLength}
 use Rattle.refusal.specs.Table.{row, Outcome, refused, first}
 use Rattle.rows.specs.Examples.{sceneS, baseS, supS, line, validated, guarded}
 use Rattle.rows.specs.Faults.{Fault, fault, FirstTold}
@@ -112,9 +112,9 @@ pub record WithinRows : Type 0 where
   pub image-device : FirstTold validated imageS (collides 0xD 0x4040_0000 1 ∷ collides 0xB 0x8020_0000 2 ∷ [])
   pub data-super : FirstTold validated imageS (overlaps 0xC 0x5000_0000 ∷ collides 0xD 0x8040_0000 2 ∷ [])
   pub data-device : FirstTold validated imageS (overlaps 0x9 0x900_0000 ∷ collides 0xB 0x20_0000 0 ∷ [])
-  pub equal-tables : FirstTold (guarded 3072 baseS supS) sceneS faults13
+  pub equal-tables : FirstTold (guarded arenaLength baseS supS) sceneS faults13
   -- the last pair cannot fail beside the one before it: then tables 4 and 5 are equal, too
-  pub last-tables : guarded 3072 baseS supS (equalTables 5 6 .change sceneS) ≡ refused (row 13 (5 ∷ 6 ∷ []))
+  pub last-tables : guarded arenaLength baseS supS (equalTables 5 6 .change sceneS) ≡ refused (row 13 (5 ∷ 6 ∷ []))
   -- the lowest position
-  pub codes : guarded 3072 (0 ∷ 4 ∷ 5 ∷ []) supS sceneS ≡ refused (row 3 (1 ∷ 1 ∷ []))
-  pub supers : guarded 3072 baseS (0 ∷ 0 ∷ 0 ∷ 0 ∷ 1 ∷ 1 ∷ []) sceneS ≡ refused (row 14 (4 ∷ []))
+  pub codes : guarded arenaLength (0 ∷ 4 ∷ 5 ∷ []) supS sceneS ≡ refused (row 3 (1 ∷ 1 ∷ []))
+  pub supers : guarded arenaLength baseS (0 ∷ 0 ∷ 0 ∷ 0 ∷ 1 ∷ 1 ∷ []) sceneS ≡ refused (row 14 (4 ∷ []))

@@ -11,7 +11,7 @@ use Rattle.exact.specs.Exact.{exactRows}
 use Rattle.exposed.specs.Exposed.{exposure, exposureValues}
 use Rattle.filling.specs.Filling.{Filling, filled}
 use Rattle.layout.specs.Layout.{layoutOf}
-use Rattle.layout.specs.Size.{outputLimit}
+use Rattle.layout.specs.Size.{boardLimit}
 use Rattle.p2m.specs.Frame.{spanNamed}
 use Rattle.reach.specs.Reach.{reachValues}
 use Rattle.refusal.specs.Outcome.{outcomeWords}
@@ -33,7 +33,7 @@ abbrev pub fillAnswer : List Edge → List (List ℕ) → ℕ → List ℕ → L
 fillAnswer edges frames dom base sup = fillingWords (filled frames dom edges base sup)
 
 abbrev pub encodeOutcome : List ℕ → List ℕ → List ℕ → List ℕ → Outcome
-encodeOutcome numbers base sup arena = first (arenaGuardRows outputLimit arena base sup (layoutOf numbers))
+encodeOutcome numbers base sup arena = first (arenaGuardRows boardLimit arena base sup (layoutOf numbers))
 
 -- the answer, and the words at exit
 pub record EncodeAnswer (numbers base sup old answer new : List ℕ) : Type 0 where

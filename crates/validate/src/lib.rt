@@ -3,6 +3,7 @@ use layout::Check;
 use layout::Layout;
 use layout::SuperWindow;
 use layout::Table;
+use layout::Window;
 use refusal::Refusal;
 use refusal::Verdict;
 ghost use mathlib.Core.Bool.{true};
@@ -10,25 +11,23 @@ ghost use mathlib.Core.Path.{_≡_};
 ghost use Rattle.layout.specs.Check.{checksOf};
 ghost use Rattle.refusal.specs.Outcome.{outcomeOf};
 ghost use Rattle.refusal.specs.Table.{accepted, first, each};
-ghost use Rattle.rows.specs.Rows.{row6, row7, capped, refusalsAt, refusals};
+ghost use Rattle.rows.specs.Rows.{row4, row6, row7, capped, refusalsAt, refusals};
 
 // What encoding assumes of a layout. A layout that breaks it would be mapped wrongly with no fault.
 pub fn validate(l: Layout) -> Verdict
     ensures { λ r. ⌜ outcomeOf r ≡ first (refusals l) ⌝ }
 {
-    validate_at(Layout::OUTPUT_LIMIT, l)
+    validate_at(Layout::BOARD_LIMIT, l)
 }
 
 // The same where tables and outputs lie below a limit of the caller's.
 pub fn validate_at(limit: u64, l: Layout) -> Verdict
     ensures { λ r. ⌜ outcomeOf r ≡ first (refusalsAt limit l) ⌝ }
 {
-    if l.device_len % Layout::BLOCK_SIZE != 0 {
-        return Verdict::Refused(Refusal::DeviceWindowUnaligned {
-            base: l.device_base,
-            len: l.device_len,
-        });
-    }
+    let whole = all_whole(l.devices());
+    let Verdict::Accepted = whole else {
+        return whole;
+    };
     if l.frame_size != Layout::PAGE_SIZE {
         return Verdict::Refused(Refusal::GranuleNotEmitted {
             frame_size: l.frame_size,
@@ -49,6 +48,31 @@ pub fn validate_at(limit: u64, l: Layout) -> Verdict
         });
     };
     windows::windows(held, windows::windows_of(l, sup))
+}
+
+fn all_whole(ds: [Window; Layout::DEVICES]) -> Verdict
+    ensures { λ r. ⌜ outcomeOf r ≡ first (each row4 ds) ⌝ }
+{
+    for i in 0..Layout::DEVICES {
+        let verdict = whole(ds[i]);
+        let Verdict::Accepted = verdict else {
+            return verdict;
+        };
+    }
+    Verdict::Accepted
+}
+
+// Row 4. A device is mapped by whole blocks.
+fn whole(d: Window) -> Verdict
+    ensures { λ r. ⌜ outcomeOf r ≡ first (row4 d) ⌝ }
+{
+    if d.span % Layout::BLOCK_SIZE != 0 {
+        return Verdict::Refused(Refusal::DeviceWindowUnaligned {
+            base: d.ipa,
+            len: d.span,
+        });
+    }
+    Verdict::Accepted
 }
 
 // A descriptor holds no address from 2^48 on.
@@ -126,6 +150,9 @@ fn all_nameable(limit: u64, ts: [Table; Layout::TABLES]) -> Verdict
 fn nameable(limit: u64, t: Table) -> Verdict
     ensures { λ r. ⌜ outcomeOf r ≡ first (row7 limit t) ⌝ }
 {
+    if !t.present {
+        return Verdict::Accepted;
+    }
     let unnameable = Verdict::Refused(Refusal::TableUnnameable {
         table: t.code,
         pa: t.pa,

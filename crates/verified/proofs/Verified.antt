@@ -15,7 +15,7 @@ use Rattle.decode.specs.Decoded.{decodedBlock, decodedTable}
 use Rattle.decode.specs.declared.DecodedTable.the-variants.{At}
 use Rattle.desc.specs.Descriptor.{pageAddress, blockAddress}
 use Rattle.fields.specs.Named.{pick}
-use Rattle.layout.specs.Size.{entries, outputLimit, arenaLength}
+use Rattle.layout.specs.Size.{entries, boardLimit, arenaLength}
 use Rattle.layout.specs.Window.{imageWindow, dataWindow, superWindow, deviceWindow, l2Slot, slot}
 use Rattle.layout.specs.declared.Layout.{Layout}
 use Rattle.layout.specs.declared.Window.{Window}
@@ -33,7 +33,7 @@ use Rattle.verified.proofs.Words.{l1-none, l1-data, l1-super, l1-image,
 names : (d pa : ℕ) → d ≡ tableTo pa → decodedTable d ≡ At (pageAddress pa)
 names d pa e = ap decodedTable e ∙ emitted-decodes .table (pageAddress pa) (held-page pa)
 
-module _ (arena base sup : List ℕ) (l : Layout) (g : Guarded outputLimit base sup l) (e : ReadAlike arena base sup l) where
+module _ (arena base sup : List ℕ) (l : Layout) (g : Guarded boardLimit base sup l) (e : ReadAlike arena base sup l) where
   abbrev image : Window
   image = imageWindow (l .«guest_image_pa»)
 
@@ -112,7 +112,7 @@ pub alike-verifies : AlikeVerifies
 unfolding guardRows verifyRows row1 flatMap
 alike-verifies arena base sup l guard e =
     let maps = both (mapRows base sup) _ (none _ guard) in
-    let valid = both (refusalsAt outputLimit l) _ (maps .1) in
+    let valid = both (refusalsAt boardLimit l) _ (maps .1) in
     let long = eq-eqb (length arena) arenaLength (e .long) in
-    let words = no-word arena base sup l (guarded-facts outputLimit base sup l guard) e in
+    let words = no-word arena base sup l (guarded-facts boardLimit base sup l guard) e in
     accept _ (rw (long, maps .0, valid .0, words))

@@ -15,7 +15,7 @@ use Rattle.decode.proofs.Emitted.{emitted-decodes}
 use Rattle.decode.specs.Decoded.{decodedPage, decodedBlock, decodedTable, decodedDevice}
 use Rattle.desc.specs.Descriptor.{pageAddress, blockAddress}
 use Rattle.fields.specs.Named.{pick}
-use Rattle.layout.specs.Size.{entries, block, outputLimit}
+use Rattle.layout.specs.Size.{entries, block, boardLimit}
 use Rattle.layout.specs.Window.{imageWindow, dataWindow, superWindow, deviceWindow, l2Slot, slot}
 use Rattle.layout.specs.declared.Layout.{Layout}
 use Rattle.layout.specs.declared.Window.{Window}
@@ -38,7 +38,7 @@ some read d w e ne = (e, λ z. absurd (ne z))
 nothing : {A : Type 0} (read : ℕ → A) (d w : ℕ) → d ≡ 0 → w ≡ 0 → Kept read d w
 nothing read d w e z = (ap read (e ∙ sym z), λ _. e)
 
-module _ (arena base sup : List ℕ) (l : Layout) (g : Guarded outputLimit base sup l) where
+module _ (arena base sup : List ℕ) (l : Layout) (g : Guarded boardLimit base sup l) where
   abbrev image : Window
   image = imageWindow (l .«guest_image_pa»)
 
@@ -169,7 +169,7 @@ module _ (arena base sup : List ℕ) (l : Layout) (g : Guarded outputLimit base 
 pub verified-alike : VerifiedAlike
 unfolding verifyRows encodingRows row1 flatMap
 verified-alike arena base sup l guard v =
-    let g = guarded-facts outputLimit base sup l guard in
+    let g = guarded-facts boardLimit base sup l guard in
     let long = both (row1 arena) _ (none _ v) in
     let maps = both (mapRows base sup) _ (long .1) in
     let valid = both (refusals l) _ (maps .1) in

@@ -19,7 +19,7 @@ use Rattle.decode.specs.Decoded.{decodedPage, decodedBlock, decodedDevice}
 use Rattle.decode.specs.declared.DecodedBlock.the-variants.{Device, Nothing as NoBlock}
 use Rattle.desc.specs.Descriptor.{pageAddress, blockAddress}
 use Rattle.fields.specs.Named.{pick}
-use Rattle.layout.specs.Size.{entries, page, block, outputLimit}
+use Rattle.layout.specs.Size.{entries, page, block, boardLimit}
 use Rattle.layout.specs.Window.{imageWindow, dataWindow, superWindow, deviceWindow, l1Slot, l2Slot, slot}
 use Rattle.layout.specs.declared.Layout.{Layout}
 use Rattle.layout.specs.declared.Window.{Window}
@@ -50,7 +50,7 @@ elsewhere true n j h = ne-eqb n j (h refl)
 elsewhere false n j h = refl
 
 -- the word of each window in table 1: no other window has its slot
-module _ (l : Layout) (a : Accepted outputLimit l) where
+module _ (l : Layout) (a : Accepted boardLimit l) where
   abbrev image : Window
   image = imageWindow (l .«guest_image_pa»)
 
@@ -76,7 +76,7 @@ module _ (l : Layout) (a : Accepted outputLimit l) where
   pub l1-device : deviceWindow l .present ≡ true → l1At l (slot (deviceWindow l)) ≡ tableTo (l .«l2_dev_pa»)
   l1-device p = of-device l (slot (deviceWindow l)) p (eq-eqb (slot (deviceWindow l)) _ refl)
 
-module _ (base sup : List ℕ) (l : Layout) (g : Guarded outputLimit base sup l) where
+module _ (base sup : List ℕ) (l : Layout) (g : Guarded boardLimit base sup l) where
   pub page-wanted :
       (m : ℕ) → m < entries →
       decodedPage (target l base sup (3 * entries + m))

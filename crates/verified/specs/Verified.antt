@@ -8,7 +8,7 @@ use Rattle.decode.specs.Decoded.{decodedPage, decodedBlock, decodedTable, decod
 use Rattle.decode.specs.declared.DecodedBlock.the-variants.{Nothing as NoBlock}
 use Rattle.decode.specs.declared.DecodedLeaf.the-variants.{Nothing as NoLeaf}
 use Rattle.layout.specs.Layout.{layoutOf}
-use Rattle.layout.specs.Size.{entries, outputLimit, arenaLength}
+use Rattle.layout.specs.Size.{entries, boardLimit, arenaLength}
 use Rattle.layout.specs.declared.Layout.{Layout}
 use Rattle.refusal.specs.Table.{accepted, first}
 use Rattle.rows.specs.Examples.{sceneS, baseS, supS}
@@ -17,7 +17,7 @@ use Rattle.verify_rows.specs.Verifying.{word, verifyRows}
 
 -- rows 2 to 14 let layout and maps by
 abbrev pub Guarding : List ℕ → List ℕ → Layout → Type 0
-Guarding base sup l = first (guardRows outputLimit base sup l) ≡ accepted
+Guarding base sup l = first (guardRows boardLimit base sup l) ≡ accepted
 
 -- every word is what encoding into zeros leaves there
 pub record Encoded (arena base sup : List ℕ) (l : Layout) : Type 0 where

@@ -17,7 +17,7 @@ use Rattle.arena.specs.Word.{tableTo, imageTo}
 use Rattle.decode.specs.Emitted.{Output}
 use Rattle.fields.specs.Named.{pick}
 use Rattle.layout.specs.Layout.{tableAt, tablesOf}
-use Rattle.layout.specs.Size.{entries, page, block, inputLimit, outputLimit, arenaLength}
+use Rattle.layout.specs.Size.{entries, page, block, inputLimit, boardLimit, arenaLength}
 use Rattle.layout.specs.Window.{imageWindow, dataWindow, superWindow, deviceWindow, l1Slot, l2Slot, slot}
 use Rattle.layout.specs.declared.GuestImage.{GuestImage}
 use Rattle.layout.specs.declared.GuestImage.the-variants.{At, Absent}
@@ -54,7 +54,7 @@ image-itself (At pa) = refl
 image-itself Absent = refl
 
 module _
-    (l : Layout) (base sup : List ℕ) (words : Words) (g : Guarded outputLimit base sup l)
+    (l : Layout) (base sup : List ℕ) (words : Words) (g : Guarded boardLimit base sup l)
     (all : (i : ℕ) → i < arenaLength → words i ≡ target l base sup i)
     (x : ℕ)
     (low : x < inputLimit)
@@ -132,14 +132,14 @@ module _
     image = imageWindow (l .«guest_image_pa»)
 
     -- a table's word names it
-    named : (pa : ℕ) → pa < outputLimit → pa % page ≡ 0 → Names-table (tableTo pa) pa
+    named : (pa : ℕ) → pa < boardLimit → pa % page ≡ 0 → Names-table (tableTo pa) pa
     named pa a b = table-names pa (record { below = a; aligned = b })
 
     -- the output of a block of a window
-    block-output : (pa span p : ℕ) → pa % block ≡ 0 → pa + span ≤ outputLimit → p < span / block → Output 21 (pa + p * block)
+    block-output : (pa span p : ℕ) → pa % block ≡ 0 → pa + span ≤ boardLimit → p < span / block → Output 21 (pa + p * block)
     block-output pa span p a b c = record { below = omega arith; aligned = omega arith }
 
-    page-output : (pa p : ℕ) → pa % page ≡ 0 → pa + entries * page ≤ outputLimit → p < entries → Output 12 (pa + p * page)
+    page-output : (pa p : ℕ) → pa % page ≡ 0 → pa + entries * page ≤ boardLimit → p < entries → Output 12 (pa + p * page)
     page-output pa p a b c = record { below = omega arith; aligned = omega arith }
 
     module _ (there : deviceWindow l .present ≡ true) (same : l1Slot x ≡ slot (deviceWindow l)) (at1 : Reads 2 (l .«l1_pa») (tableTo (l .«l2_dev_pa»))) where
@@ -157,7 +157,7 @@ module _
           let w = g .layout .windows .1 .1 .1 .0 there in
           let t = g .layout .tables .1 .1 .1 .1 .1 .0 in
           let a = g .layout .device there in
-          block-window addresses words x outputLimit (deviceRegion l) there w refl a (g .layout .device-len) low same (tableTo (l .«l2_dev_pa»)) (l .«l2_dev_pa») at1
+          block-window addresses words x boardLimit (deviceRegion l) there w refl a (g .layout .device-len) low same (tableTo (l .«l2_dev_pa»)) (l .«l2_dev_pa») at1
           (named (l .«l2_dev_pa») (t .below) (t .aligned)) dev-word
           (λ h out. table-6 out ∙ Runs.before 6 dev-from dev-count dev-word i6 (omega (arith, of-6 .1, h)))
           (λ h out. table-6 out ∙ Runs.past 6 dev-from dev-count dev-word i6 (omega (arith, of-6 .1, h)))
@@ -179,7 +179,7 @@ module _
           let w = g .layout .windows .1 .1 .0 refl in
           let t = g .layout .tables .1 .1 .1 .1 .0 in
           let n = counted in
-          block-window addresses words x outputLimit (superRegion l sup) refl w refl (g .layout .sup-ipa) (omega arith) low same (tableTo (l .«l2_sup_pa»)) (l .«l2_sup_pa») at1
+          block-window addresses words x boardLimit (superRegion l sup) refl w refl (g .layout .sup-ipa) (omega arith) low same (tableTo (l .«l2_sup_pa»)) (l .«l2_sup_pa») at1
           (named (l .«l2_sup_pa») (t .below) (t .aligned)) sup-word
           (λ h out. table-5 out ∙ Runs.before 5 sup-from (l .«sup_frames») sup-word i5 (omega (arith, of-5 .1, h)))
           (λ h out. table-5 out ∙ Runs.past 5 sup-from (l .«sup_frames») sup-word i5 (omega (arith, of-5 .1, h, n)))
@@ -196,7 +196,7 @@ module _
           let t = g .layout .tables .1 .1 .0 in
           let u = g .layout .tables .1 .1 .1 .0 in
           let e : indexOf i4 - 0 ≡ index 0 x = omega (arith, of-4 .1) in
-          page-window addresses words x outputLimit (dataRegion l base) refl w refl (g .layout .data-ipa) refl low same
+          page-window addresses words x boardLimit (dataRegion l base) refl w refl (g .layout .data-ipa) refl low same
           (tableTo (l .«l2_data_pa»)) (l .«l2_data_pa») (tableTo (l .«l3_data_pa»)) (l .«l3_data_pa») at1
           (named (l .«l2_data_pa») (t .below) (t .aligned))
           (λ ne out. table-3 out ∙ ap (λ b. pick b (tableTo (l .«l3_data_pa»)) 0) (ne-eqb _ _ ne))
@@ -217,7 +217,7 @@ module _
           let w = g .layout .windows .0 there in
           let t = g .layout .tables .1 .0 in
           let s = one-block in
-          block-window addresses words x outputLimit (imageRegion l) there w refl (g .layout .image there) (omega (arith, s)) low same
+          block-window addresses words x boardLimit (imageRegion l) there w refl (g .layout .image there) (omega (arith, s)) low same
           (tableTo (l .«l2_code_pa»)) (l .«l2_code_pa») at1 (named (l .«l2_code_pa») (t .below) (t .aligned)) (λ p. imageTo (image .pa))
           (λ h out. table-2 out ∙ rw (there, ne-eqb (l2Slot (image .ipa)) (l2Slot x) (λ q. omega (arith, h, q))))
           (λ h out. table-2 out ∙ rw (there, ne-eqb (l2Slot (image .ipa)) (l2Slot x) (λ q. omega (arith, h, q, s))))
@@ -262,16 +262,16 @@ module _
     granted-nothing a b c d = rw (a, b, c, d)
 
     not-image : has image ≡ false → contains image x ≡ false
-    not-image = not-here outputLimit image x (g .layout .windows .0)
+    not-image = not-here boardLimit image x (g .layout .windows .0)
 
     not-data : has (dataWindow l) ≡ false → contains (dataWindow l) x ≡ false
-    not-data = not-here outputLimit (dataWindow l) x (g .layout .windows .1 .0)
+    not-data = not-here boardLimit (dataWindow l) x (g .layout .windows .1 .0)
 
     not-super : has (superWindow l) ≡ false → contains (superWindow l) x ≡ false
-    not-super = not-here outputLimit (superWindow l) x (g .layout .windows .1 .1 .0)
+    not-super = not-here boardLimit (superWindow l) x (g .layout .windows .1 .1 .0)
 
     not-device : has (deviceWindow l) ≡ false → contains (deviceWindow l) x ≡ false
-    not-device = not-here outputLimit (deviceWindow l) x (g .layout .windows .1 .1 .1 .0)
+    not-device = not-here boardLimit (deviceWindow l) x (g .layout .windows .1 .1 .1 .0)
 
     -- no two windows have it
     alone : (v w : Window) → (v .present ≡ true → w .present ≡ true → Apart v w) → has w ≡ true → has v ≡ false
@@ -312,20 +312,20 @@ module _
 
 module _ (l : Layout) (base sup : List ℕ) (x : ℕ) where
   -- past the limit no window has the address
-  past : Guarded outputLimit base sup l → inputLimit ≤ x → granted l base sup x ≡ Nothing
+  past : Guarded boardLimit base sup l → inputLimit ≤ x → granted l base sup x ≡ Nothing
   unfolding grantedBy
   past g h =
       let w = g .layout .windows in
       rw (
-        past-limit outputLimit (imageWindow (l .«guest_image_pa»)) x (w .0) h,
-        past-limit outputLimit (dataWindow l) x (w .1 .0) h,
-        past-limit outputLimit (superWindow l) x (w .1 .1 .0) h,
-        past-limit outputLimit (deviceWindow l) x (w .1 .1 .1 .0) h,
+        past-limit boardLimit (imageWindow (l .«guest_image_pa»)) x (w .0) h,
+        past-limit boardLimit (dataWindow l) x (w .1 .0) h,
+        past-limit boardLimit (superWindow l) x (w .1 .1 .0) h,
+        past-limit boardLimit (deviceWindow l) x (w .1 .1 .1 .0) h,
       )
 
 pub reaches :
     (l : Layout) (base sup : List ℕ) (words : Words) →
-    Guarded outputLimit base sup l →
+    Guarded boardLimit base sup l →
     ((i : ℕ) → i < arenaLength → words i ≡ target l base sup i) → (x : ℕ) → Reaches l base sup words x
 unfolding walkOf translation
 reaches l base sup words g all x = go (ltb x inputLimit) refl
@@ -342,11 +342,11 @@ reaches l base sup words g all x = go (ltb x inputLimit) refl
         let p = past l base sup x g (ltb-false _ _ t) in record { walks = rw (t, p); translates = λ m a. rw (t, p) }
 
 pub demand-2 : Demand2
-demand-2 l base sup words e = reaches l base sup words (guarded-facts outputLimit base sup l e)
+demand-2 l base sup words e = reaches l base sup words (guarded-facts boardLimit base sup l e)
 
 pub demand-2-encoded : Demand2Encoded
 demand-2-encoded l base sup new e =
-    let g = arena-guarded-facts outputLimit (replicate arenaLength 0) base sup l (sym (e .answer)) .1 in
+    let g = arena-guarded-facts boardLimit (replicate arenaLength 0) base sup l (sym (e .answer)) .1 in
     let long = length-replicate {A = ℕ} arenaLength 0 in
-    let over = from-zeros outputLimit l base sup new e in
+    let over = from-zeros boardLimit l base sup new e in
     reaches l base sup (wordsOf new) g (λ i h. over .word i (omega (arith, h, long)))

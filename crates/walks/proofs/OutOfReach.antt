@@ -13,7 +13,7 @@ use Rattle.desc.specs.Words.{leafAccessXn}
 use Rattle.exposed.specs.Exposed.{liesIn, firstWindow, firstTable}
 use Rattle.fields.specs.Named.{pick}
 use Rattle.layout.specs.Layout.{layoutOf, tablesOf}
-use Rattle.layout.specs.Size.{page, block, outputLimit}
+use Rattle.layout.specs.Size.{page, block, boardLimit}
 use Rattle.layout.specs.Window.{imageWindow, dataWindow, superWindow, deviceWindow, windowsOf}
 use Rattle.layout.specs.declared.Layout.{Layout}
 use Rattle.layout.specs.declared.Table.{Table}
@@ -81,7 +81,7 @@ module _ (x : ℕ) (r : Reach) where
 by-blocks : (n : ℕ) → n % block ≡ 0 → n % page ≡ 0
 by-blocks n h = omega (arith, h)
 
-module _ (l : Layout) (base sup : List ℕ) (g : Guarded outputLimit base sup l) (x : ℕ) (r : Reach) (e : granted l base sup x ≡ At r) where
+module _ (l : Layout) (base sup : List ℕ) (g : Guarded boardLimit base sup l) (x : ℕ) (r : Reach) (e : granted l base sup x ≡ At r) where
   abbrev image : Window
   image = imageWindow (l .«guest_image_pa»)
 
@@ -89,7 +89,7 @@ module _ (l : Layout) (base sup : List ℕ) (g : Guarded outputLimit base sup l)
   image-pages p =
       by-blocks (image .pa) (ap (λ (n : ℕ). n % block) (image-itself (l .«guest_image_pa»)) ∙ g .layout .image p)
 
-  no-byte : (t : Table) → Nameable outputLimit t → All (λ w. liesIn t w ≡ false) (windowsOf l) → ByteOf t (r .pa) → ⊥
+  no-byte : (t : Table) → Nameable boardLimit t → All (λ w. liesIn t w ≡ false) (windowsOf l) → ByteOf t (r .pa) → ⊥
   no-byte t n a byte =
       let away = off x r t (n .aligned) byte in
       nowhere x r (regionsOf l base sup) e (
@@ -104,14 +104,14 @@ module _ (l : Layout) (base sup : List ℕ) (g : Guarded outputLimit base sup l)
       )
 
   no-bytes :
-      (ts : List Table) → All (Nameable outputLimit) ts → All (λ t. All (λ w. liesIn t w ≡ false) (windowsOf l)) ts →
+      (ts : List Table) → All (Nameable boardLimit) ts → All (λ t. All (λ w. liesIn t w ≡ false) (windowsOf l)) ts →
       All (λ t. ByteOf t (r .pa) → ⊥) ts
   no-bytes [] n a = tt
   no-bytes (t ∷ ts) n a = (no-byte t (n .0) (a .0), no-bytes ts (n .1) (a .1))
 
 pub out-of-reach : OutOfReach
 out-of-reach l base sup words e all apart x r walked =
-    let g = guarded-facts outputLimit base sup l e in
+    let g = guarded-facts boardLimit base sup l e in
     no-bytes l base sup g x r (sym (demand-2 l base sup words e all x .walks) ∙ walked) (tablesOf l) (g .layout .tables) apart
 
 pub table-handed-out : TableHandedOut

@@ -5,7 +5,7 @@ use lib.ListN.{replicate}
 use Rattle.accepted.proofs.Guarded.{arena-guarded-facts}
 use Rattle.arena.specs.Encoded.{target}
 use Rattle.layout.specs.Layout.{layoutOf}
-use Rattle.layout.specs.Size.{outputLimit, arenaLength}
+use Rattle.layout.specs.Size.{boardLimit, arenaLength}
 use Rattle.leaves.proofs.Examples as Leaves
 use Rattle.rows.proofs.Examples as Rows
 use Rattle.rows.specs.Examples.{baseS, supS}
@@ -19,7 +19,7 @@ use Rattle.walks.proofs.Demand2.{reaches}
 module _ (words : Words) (all : (i : ℕ) → i < arenaLength → words i ≡ target S baseS supS i) where
   walked : (x : ℕ) → walkOf (addressesOf S) (λ left. words) x ≡ granted S baseS supS x
   walked x =
-      reaches S baseS supS words (arena-guarded-facts outputLimit (replicate arenaLength 0) baseS supS S (Rows.examples .S) .1) all x .walks
+      reaches S baseS supS words (arena-guarded-facts boardLimit (replicate arenaLength 0) baseS supS S (Rows.examples .S) .1) all x .walks
 
   walks-of-S : WalksOfS words
   unfolding layoutOf grantedBy

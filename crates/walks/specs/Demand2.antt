@@ -7,7 +7,7 @@ use lib.ListN.{replicate}
 use Rattle.arena.specs.Encoded.{target}
 use Rattle.encode.specs.Encoding.{Encoding}
 use Rattle.layout.specs.Layout.{tablesOf}
-use Rattle.layout.specs.Size.{outputLimit, arenaLength}
+use Rattle.layout.specs.Size.{boardLimit, arenaLength}
 use Rattle.layout.specs.declared.Layout.{Layout}
 use Rattle.manual.specs.Translation.{Machine, Access, translation, allowed}
 use Rattle.refusal.specs.Table.{accepted, first}
@@ -30,12 +30,12 @@ pub record Reaches (l : Layout) (base sup : List ℕ) (words : Words) (x : ℕ) 
 abbrev pub Demand2 : Type 0
 Demand2 =
     (l : Layout) (base sup : List ℕ) (words : Words) →
-    first (guardRows outputLimit base sup l) ≡ accepted →
+    first (guardRows boardLimit base sup l) ≡ accepted →
     ((i : ℕ) → i < arenaLength → words i ≡ target l base sup i) → (x : ℕ) → Reaches l base sup words x
 
 -- in particular over what `encode` leaves from zeros
 abbrev pub Demand2Encoded : Type 0
 Demand2Encoded =
     (l : Layout) (base sup new : List ℕ) →
-    Encoding outputLimit l base sup (replicate arenaLength 0) accepted new →
+    Encoding boardLimit l base sup (replicate arenaLength 0) accepted new →
     (x : ℕ) → Reaches l base sup (wordsOf new) x

@@ -7,7 +7,7 @@ use Rattle.arena.specs.Encoded.{target}
 use Rattle.exposed.specs.Exposed.{liesIn, exposure}
 use Rattle.exposed.specs.declared.Exposure.the-variants.{Table as Lies}
 use Rattle.layout.specs.Layout.{layoutOf, tablesOf}
-use Rattle.layout.specs.Size.{page, outputLimit, arenaLength}
+use Rattle.layout.specs.Size.{page, boardLimit, arenaLength}
 use Rattle.layout.specs.Window.{windowsOf}
 use Rattle.layout.specs.declared.Layout.{Layout}
 use Rattle.layout.specs.declared.Table.{Table}
@@ -31,7 +31,7 @@ ByteOf t pa = (t .pa ≤ pa) × (pa < t .pa + page)
 abbrev pub OutOfReach : Type 0
 OutOfReach =
     (l : Layout) (base sup : List ℕ) (words : Words) →
-    first (guardRows outputLimit base sup l) ≡ accepted →
+    first (guardRows boardLimit base sup l) ≡ accepted →
     ((i : ℕ) → i < arenaLength → words i ≡ target l base sup i) →
     All (λ t. All (λ w. liesIn t w ≡ false) (windowsOf l)) (tablesOf l) →
     (x : ℕ) (r : Reach) →

@@ -13,7 +13,7 @@ ghost use mathlib.Core.Bool.{true};
 ghost use mathlib.Core.Path.{_≡_};
 ghost use lib.ListN.{getD};
 ghost use Rattle.accepted.specs.Guarded.{Guarded};
-ghost use Rattle.layout.specs.Size.{outputLimit};
+ghost use Rattle.layout.specs.Size.{boardLimit};
 ghost use Rattle.reach.specs.Reach.{toldOf};
 ghost use Rattle.refusal.specs.Table.{first};
 ghost use Rattle.refusal.specs.Told.{after};
@@ -22,9 +22,9 @@ ghost use Rattle.window_reach.specs.Granted.{contains, byEntry, granted,
 
 // Rows 2 to 14 come first: the sums below serve accepted layouts alone.
 pub fn window_reach(base: &[u8], sup: &[u8], l: Layout, ipa: u64) -> Walked
-    ensures { λ r. ⌜ toldOf r ≡ after (first (guardRows outputLimit (now (base .entry)) (now (sup .entry)) l)) (granted l (now (base .entry)) (now (sup .entry)) ipa) ⌝ }
+    ensures { λ r. ⌜ toldOf r ≡ after (first (guardRows boardLimit (now (base .entry)) (now (sup .entry)) l)) (granted l (now (base .entry)) (now (sup .entry)) ipa) ⌝ }
 {
-    let verdict = guard::guard_maps_at(Layout::OUTPUT_LIMIT, base, sup, l);
+    let verdict = guard::guard_maps_at(Layout::BOARD_LIMIT, base, sup, l);
     match verdict {
         Verdict::Accepted => Walked::Told(reach_in(base, sup, l, ipa)),
         Verdict::Refused(refusal) => Walked::Refused(refusal),
@@ -32,7 +32,7 @@ pub fn window_reach(base: &[u8], sup: &[u8], l: Layout, ipa: u64) -> Walked
 }
 
 fn reach_in(base: &[u8], sup: &[u8], l: Layout, ipa: u64) -> Reached
-    requires { ⌜ Guarded outputLimit (now base) (now sup) l ⌝ }
+    requires { ⌜ Guarded boardLimit (now base) (now sup) l ⌝ }
     ensures { λ r. ⌜ r ≡ granted l (now (base .entry)) (now (sup .entry)) ipa ⌝ }
 {
     // After row 8 the super window is counted.
@@ -85,7 +85,7 @@ fn entry_of(map: &[u8], w: Window, ipa: u64, piece: u64) -> u8
 // The same offset from the output base.
 fn grant(w: Window, ipa: u64, exempt: bool, entry: u8) -> Reached
     requires { ⌜ contains w ipa ≡ true ⌝ }
-    requires { ⌜ w .pa + w .span ≤ outputLimit ⌝ }
+    requires { ⌜ w .pa + w .span ≤ boardLimit ⌝ }
     ensures { λ r. ⌜ r ≡ byEntry (w .pa + (ipa - w .ipa)) exempt entry ⌝ }
 {
     by_entry(w.pa + (ipa - w.ipa), exempt, entry)

@@ -2,7 +2,7 @@
 use mathlib.Core.Path.{_∙_, sym, ap}
 use borrow.Author.Needs.{needs}
 use Rattle.accepted.proofs.Accepted.{accepted-facts}
-use Rattle.layout.specs.Size.{outputLimit}
+use Rattle.layout.specs.Size.{boardLimit}
 use Rattle.refusal.proofs.Told.{tells, denies}
 use Rattle.refusal.specs.Outcome.{outcomeOf}
 use Rattle.exposed.proofs.exposed_table.Statement.{statement}
@@ -17,7 +17,7 @@ enum-told c = search needs
 first-exposed-requires : tie.Need-first-exposed-requires
 first-exposed-requires c κs =
     let v = c .before .before in
-    accepted-facts outputLimit (v .before .args .l) (sym (v .validate .ensures) ∙ ap outcomeOf (c .enum-told .given .1)) .frames
+    accepted-facts boardLimit (v .before .args .l) (sym (v .validate .ensures) ∙ ap outcomeOf (c .enum-told .given .1)) .frames
 
 enum-known-verdict : tie.Need-enum-known-verdict
 enum-known-verdict c = search needs

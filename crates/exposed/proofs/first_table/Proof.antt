@@ -1,10 +1,11 @@
 -- `first_table` meets its contract: the first table is that of the tables from i on.
 use Prim.Native.Nat.{_≤_, _<_, _-_}
+use mathlib.Core.Bool.{false}
 use mathlib.Core.Path.{_≡_, refl, sym, _∙_}
 use native.Mathlib.Omega.{arith}
 use lib.ListN.{length, drop}
 use borrow.Author.Needs.{needs}
-use Rattle.layout.specs.Layout.{tableAt}
+use Rattle.layout.specs.Layout.{tableIf}
 use Rattle.exposed.specs.Exposed.{firstTable}
 use Rattle.exposed.proofs.First.{stops, goes-on, table-at, table-end}
 use Rattle.exposed.proofs.first_table.Statement.{statement}
@@ -40,7 +41,7 @@ returns c =
     let h = v .before .before .before in
     let s = h .before in
     let inside : h .loop .i < length (s .args .t1) = omega (arith, s .good .0 .1 .0 .1) in
-    let here = table-at (s .args .t1) (s .args .ws) (h .loop .i) (tableAt 0 0) inside in
+    let here = table-at (s .args .t1) (s .args .ws) (h .loop .i) (tableIf 0 false 0) inside in
     let lies = c .enum-told2 .given in
     stops (v .first-window .result) _ _ (lies .0 .0) (lies .0 .1 .0) (v .first-window .ensures) (lies .1) ∙ sym (h .loop .inv ∙ here)
 
@@ -56,7 +57,7 @@ loop-again c =
     let h = v .before .before .before in
     let s = h .before in
     let inside : h .loop .i < length (s .args .t1) = omega (arith, s .good .0 .1 .0 .1) in
-    let here = table-at (s .args .t1) (s .args .ws) (h .loop .i) (tableAt 0 0) inside in
+    let here = table-at (s .args .t1) (s .args .ws) (h .loop .i) (tableIf 0 false 0) inside in
     h .loop .inv ∙ here ∙ goes-on (v .first-window .result) _ _ (v .first-window .ensures) (c .enum-told .given .1)
 
 returns-2 : tie.Need-returns-2 Inv-loop μ-loop

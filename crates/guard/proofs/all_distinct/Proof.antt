@@ -1,10 +1,11 @@
 -- `all_distinct` meets its contract: the first row is that of the pairs from i on.
 use Prim.Native.Nat.{_≤_, _<_, _-_}
+use mathlib.Core.Bool.{false}
 use mathlib.Core.Path.{_≡_, refl, sym, _∙_}
 use native.Mathlib.Omega.{arith}
 use lib.ListN.{length, drop}
 use borrow.Author.Needs.{needs}
-use Rattle.layout.specs.Layout.{tableAt}
+use Rattle.layout.specs.Layout.{tableIf}
 use Rattle.refusal.proofs.First.{next, stop}
 use Rattle.refusal.proofs.Parts.{pairs-at, pairs-end}
 use Rattle.refusal.specs.Table.{first, pairs}
@@ -45,7 +46,7 @@ returns c =
     let a = h .before in
     let v = c .before .before .distinct-from in
     let inside : h .loop .i < length (a .args .t1) = omega (arith, a .good .0 .1 .0 .1) in
-    let here = pairs-at (a .args .t1) (h .loop .i) (tableAt 0 0) inside row13 in
+    let here = pairs-at (a .args .t1) (h .loop .i) (tableIf 0 false 0) inside row13 in
     let refused = c .enum-told2 .given in
     stop _ _ (v .result) (refused .0 .0) here (refused .1) (v .ensures) ∙ sym (h .loop .inv)
 
@@ -61,7 +62,7 @@ loop-again c =
     let a = h .before in
     let v = c .before .before .distinct-from in
     let inside : h .loop .i < length (a .args .t1) = omega (arith, a .good .0 .1 .0 .1) in
-    let here = pairs-at (a .args .t1) (h .loop .i) (tableAt 0 0) inside row13 in
+    let here = pairs-at (a .args .t1) (h .loop .i) (tableIf 0 false 0) inside row13 in
     h .loop .inv ∙ next _ _ (v .result) here (c .enum-told .given .1) (v .ensures)
 
 returns-2 : tie.Need-returns-2 Inv-loop μ-loop

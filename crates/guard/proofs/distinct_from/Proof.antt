@@ -1,11 +1,12 @@
 -- `distinct_from` meets its contract: the first row is that of the tables from i on.
 use Prim.Native.Nat.{_≤_, _<_, _-_}
+use mathlib.Core.Bool.{false}
 use mathlib.Core.Path.{_≡_, refl, sym, _∙_}
 use native.Mathlib.Omega.{arith}
 use lib.ListN.{length, drop}
 use borrow.Author.Needs.{needs}
-use borrow.Author.Tests.{eq-eqb, ne-eqb}
-use Rattle.layout.specs.Layout.{tableAt}
+use Rattle.layout.specs.Layout.{tableIf}
+use Rattle.refusal.proofs.First.{next, stop}
 use Rattle.refusal.proofs.Parts.{each-at, each-end}
 use Rattle.refusal.specs.Table.{first, each}
 use Rattle.rows.specs.Rows.{row13}
@@ -21,20 +22,30 @@ abbrev μ-loop : tie.MeasureT-loop
 loop-holds : tie.Need-loop-holds Inv-loop μ-loop
 loop-holds c = refl
 
-mul-other : tie.Need-mul-other Inv-loop μ-loop
-mul-other c = search needs
+mul-distinct : tie.Need-mul-distinct Inv-loop μ-loop
+mul-distinct c = search needs
 
-array-copy-out-other : tie.Need-array-copy-out-other Inv-loop μ-loop
-array-copy-out-other c = search needs
+array-copy-out-distinct : tie.Need-array-copy-out-distinct Inv-loop μ-loop
+array-copy-out-distinct c = search needs
+
+distinct-requires : tie.Need-distinct-requires Inv-loop μ-loop
+distinct-requires c κs = search needs
+
+enum-told : tie.Need-enum-told Inv-loop μ-loop
+enum-told c = search needs
+
+enum-told-2 : tie.Need-enum-told-2 Inv-loop μ-loop
+enum-told-2 c = search needs
 
 returns : tie.Need-returns Inv-loop μ-loop
-unfolding row13 first
 returns c =
     let h = c .before .before .before .before .before in
     let a = h .before in
+    let v = c .before .before .distinct in
     let inside : h .loop .i < length (a .args .t2) = omega (arith, a .good .1 .0 .1 .0 .1) in
-    let here = each-at (a .args .t2) (h .loop .i) (tableAt 0 0) inside (row13 (a .args .t)) in
-    rw (h .loop .inv, here, eq-eqb _ _ (c .if1 .taken))
+    let here = each-at (a .args .t2) (h .loop .i) (tableIf 0 false 0) inside (row13 (a .args .t)) in
+    let refused = c .enum-told2 .given in
+    stop _ _ (v .result) (refused .0 .0) here (refused .1) (v .ensures) ∙ sym (h .loop .inv)
 
 add-i : tie.Need-add-i Inv-loop μ-loop
 add-i c = search needs
@@ -43,13 +54,13 @@ loop-less : tie.Need-loop-less Inv-loop μ-loop
 loop-less c = omega (arith, c .before .before .before .before .before .before .good .1 .0 .1 .0 .1)
 
 loop-again : tie.Need-loop-again Inv-loop μ-loop
-unfolding row13
 loop-again c =
     let h = c .before .before .before .before .before in
     let a = h .before in
+    let v = c .before .before .distinct in
     let inside : h .loop .i < length (a .args .t2) = omega (arith, a .good .1 .0 .1 .0 .1) in
-    let here = each-at (a .args .t2) (h .loop .i) (tableAt 0 0) inside (row13 (a .args .t)) in
-    rw (h .loop .inv, here, ne-eqb _ _ (c .if1 .left))
+    let here = each-at (a .args .t2) (h .loop .i) (tableIf 0 false 0) inside (row13 (a .args .t)) in
+    h .loop .inv ∙ next _ _ (v .result) here (c .enum-told .given .1) (v .ensures)
 
 returns-2 : tie.Need-returns-2 Inv-loop μ-loop
 returns-2 c =
@@ -65,8 +76,11 @@ distinct-from-spec =
     Inv-loop
     μ-loop
     loop-holds
-    mul-other
-    array-copy-out-other
+    mul-distinct
+    array-copy-out-distinct
+    distinct-requires
+    enum-told
+    enum-told-2
     returns
     add-i
     loop-less

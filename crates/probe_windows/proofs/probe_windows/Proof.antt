@@ -2,7 +2,7 @@
 use mathlib.Core.Path.{ap, _∙_}
 use borrow.Author.Needs.{needs}
 use denote.Ref.{now}
-use Rattle.layout.specs.Size.{outputLimit}
+use Rattle.layout.specs.Size.{boardLimit}
 use Rattle.layout.specs.declared.Layout.{Layout}
 use Rattle.reach.specs.Reach.{reachValues}
 use Rattle.refusal.specs.Table.{first}
@@ -31,7 +31,7 @@ returns c =
     ∙ ap (toldWords reachValues) (r .window-reach .ensures)
     ∙ ap
     (λ (l : Layout).
-    toldWords reachValues (after (first (guardRows outputLimit base sup l)) (granted l base sup (lent .ipa))))
+    toldWords reachValues (after (first (guardRows boardLimit base sup l)) (granted l base sup (lent .ipa))))
     (r .before .of .ensures)
 
 pub probe-windows-spec : {M : Type 1} → statement M

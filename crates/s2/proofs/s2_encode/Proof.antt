@@ -4,7 +4,7 @@ use borrow.Author.Needs.{needs}
 use denote.Ref.{now}
 use Rattle.arena.proofs.Over.{over-as}
 use Rattle.encode.specs.Encoding.{left}
-use Rattle.layout.specs.Size.{outputLimit}
+use Rattle.layout.specs.Size.{boardLimit}
 use Rattle.refusal.specs.Outcome.{outcomeWords}
 use Rattle.refusal.specs.Table.{first}
 use Rattle.rows.specs.Rows.{arenaGuardRows}
@@ -29,7 +29,7 @@ returns c =
     let a = v .before .before .before .before .before .before .args in
     let e = v .encode .ensures in
     let l = v .before .of .ensures in
-    let outcome = e .answer ∙ ap (λ x. first (arenaGuardRows outputLimit (now (a .arena)) (now (a .base)) (now (a .sup)) x)) l in
+    let outcome = e .answer ∙ ap (λ x. first (arenaGuardRows boardLimit (now (a .arena)) (now (a .base)) (now (a .sup)) x)) l in
     record {
       outcome = c .answer .ensures ∙ ap outcomeWords outcome;
       words = over-as _ _ _ _ (λ i old h. ap₂ (λ o x. left o x (now (a .base)) (now (a .sup)) i old) outcome l) (e .words);

@@ -6,7 +6,7 @@ use lib.ListN.{set}
 use borrow.Author.Needs.{needs}
 use denote.Ref.{now}
 use Rattle.accepted.proofs.Guarded.{arena-guarded-facts}
-use Rattle.layout.specs.Size.{outputLimit}
+use Rattle.layout.specs.Size.{boardLimit}
 use Rattle.refusal.proofs.First.{next, stop}
 use Rattle.refusal.specs.Outcome.{outcomeOf}
 use Rattle.update.specs.Step.{stepRows, leftBy}
@@ -65,7 +65,7 @@ slice-write-arena c =
     let v = t .before .before .guard in
     let a = t .before .before .before .before .before .before .before .args in
     let let-by = sym (v .ensures) ∙ ap outcomeOf (t .enum-told .given .1) in
-    let facts = arena-guarded-facts outputLimit (now (a .arena)) (now (a .base)) (now (a .sup)) (a .l) let-by in
+    let facts = arena-guarded-facts boardLimit (now (a .arena)) (now (a .base)) (now (a .sup)) (a .l) let-by in
     omega (arith, facts .0, c .place-of .ensures .1)
 
 same-length-3 : tie.Need-same-length-3

@@ -1,10 +1,11 @@
 -- `all_nameable` meets its contract: the first row is that of the tables from i on.
 use Prim.Native.Nat.{_≤_, _<_, _-_}
+use mathlib.Core.Bool.{false}
 use mathlib.Core.Path.{_≡_, refl, sym, _∙_}
 use native.Mathlib.Omega.{arith}
 use lib.ListN.{length, drop}
 use borrow.Author.Needs.{needs}
-use Rattle.layout.specs.Layout.{tableAt}
+use Rattle.layout.specs.Layout.{tableIf}
 use Rattle.refusal.proofs.First.{next, stop}
 use Rattle.refusal.proofs.Parts.{each-at, each-end}
 use Rattle.refusal.specs.Table.{first, each}
@@ -42,7 +43,7 @@ returns c =
     let a = h .before in
     let v = c .before .before .nameable in
     let inside : h .loop .i < length (a .args .t2) = omega (arith, a .good .1 .0 .1 .0 .1) in
-    let here = each-at (a .args .t2) (h .loop .i) (tableAt 0 0) inside (row7 (a .args .limit)) in
+    let here = each-at (a .args .t2) (h .loop .i) (tableIf 0 false 0) inside (row7 (a .args .limit)) in
     let refused = c .enum-told2 .given in
     stop _ _ (v .result) (refused .0 .0) here (refused .1) (v .ensures) ∙ sym (h .loop .inv)
 
@@ -58,7 +59,7 @@ loop-again c =
     let a = h .before in
     let v = c .before .before .nameable in
     let inside : h .loop .i < length (a .args .t2) = omega (arith, a .good .1 .0 .1 .0 .1) in
-    let here = each-at (a .args .t2) (h .loop .i) (tableAt 0 0) inside (row7 (a .args .limit)) in
+    let here = each-at (a .args .t2) (h .loop .i) (tableIf 0 false 0) inside (row7 (a .args .limit)) in
     h .loop .inv ∙ next _ _ (v .result) here (c .enum-told .given .1) (v .ensures)
 
 returns-2 : tie.Need-returns-2 Inv-loop μ-loop

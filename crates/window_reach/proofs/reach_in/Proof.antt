@@ -8,7 +8,7 @@ use lib.ListN.{getD}
 use borrow.Author.Needs.{needs}
 use denote.Ref.{now}
 use Rattle.layout.proofs.Counted.{counted, always}
-use Rattle.layout.specs.Size.{outputLimit}
+use Rattle.layout.specs.Size.{boardLimit}
 use Rattle.layout.specs.Window.{window, windowsWith, windowsOf}
 use Rattle.layout.specs.declared.Window.{Window}
 use Rattle.window_reach.specs.Granted.{Region, imageRegion, dataRegion, superRegion, deviceRegion, byEntry, grantedBy, granted}
@@ -120,7 +120,7 @@ grant-requires c κs =
     let v = ws-1 i in
     let within = s .pre .layout .windows .0 in (
       sym (i .inside .ensures) ∙ c .if1 .taken,
-      output (imageRegion (s .args .l)) [] (s .args .ipa) (win v 0) (is v 0) (i .inside .result) (i .inside .ensures) outputLimit within (c .if1 .taken),
+      output (imageRegion (s .args .l)) [] (s .args .ipa) (win v 0) (is v 0) (i .inside .result) (i .inside .ensures) boardLimit within (c .if1 .taken),
     )
 
 returns-2 : tie.Need-returns-2
@@ -150,7 +150,7 @@ grant-requires-2 c κs =
     let r = dataRegion (s .args .l) (now (s .args .base)) in
     let within = s .pre .layout .windows .1 .0 in (
       sym (i .inside2 .ensures) ∙ t .if2 .taken,
-      output r [] (s .args .ipa) (win v 1) (is v 1) (i .inside2 .result) (i .inside2 .ensures) outputLimit within (t .if2 .taken),
+      output r [] (s .args .ipa) (win v 1) (is v 1) (i .inside2 .result) (i .inside2 .ensures) boardLimit within (t .if2 .taken),
     )
 
 returns-3 : tie.Need-returns-3
@@ -183,7 +183,7 @@ grant-requires-3 c κs =
     let r = superRegion (s .args .l) (now (s .args .sup)) in
     let within = s .pre .layout .windows .1 .1 .0 in (
       sym (i .inside3 .ensures) ∙ t .if3 .taken,
-      output r [] (s .args .ipa) (win v 2) (is v 2) (i .inside3 .result) (i .inside3 .ensures) outputLimit within (t .if3 .taken),
+      output r [] (s .args .ipa) (win v 2) (is v 2) (i .inside3 .result) (i .inside3 .ensures) boardLimit within (t .if3 .taken),
     )
 
 returns-4 : tie.Need-returns-4
@@ -211,7 +211,7 @@ grant-requires-4 c κs =
     let v = ws-4 i in
     let within = s .pre .layout .windows .1 .1 .1 .0 in (
       sym (i .inside4 .ensures) ∙ c .if4 .taken,
-      output (deviceRegion (s .args .l)) [] (s .args .ipa) (win v 3) (is v 3) (i .inside4 .result) (i .inside4 .ensures) outputLimit within (c .if4 .taken),
+      output (deviceRegion (s .args .l)) [] (s .args .ipa) (win v 3) (is v 3) (i .inside4 .result) (i .inside4 .ensures) boardLimit within (c .if4 .taken),
     )
 
 returns-5 : tie.Need-returns-5

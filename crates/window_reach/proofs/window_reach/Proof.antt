@@ -2,7 +2,7 @@
 use mathlib.Core.Path.{_∙_, sym, ap}
 use borrow.Author.Needs.{needs}
 use Rattle.accepted.proofs.Guarded.{guarded-facts}
-use Rattle.layout.specs.Size.{outputLimit}
+use Rattle.layout.specs.Size.{boardLimit}
 use Rattle.refusal.proofs.Told.{tells, denies}
 use Rattle.refusal.specs.Outcome.{outcomeOf}
 use Rattle.window_reach.proofs.window_reach.Statement.{statement}
@@ -17,7 +17,7 @@ enum-told c = search needs
 reach-in-requires : tie.Need-reach-in-requires
 reach-in-requires c κs =
     let v = c .before .before .guard-maps-at in
-    guarded-facts outputLimit _ _ _ (sym (v .ensures) ∙ ap outcomeOf (c .enum-told .given .1))
+    guarded-facts boardLimit _ _ _ (sym (v .ensures) ∙ ap outcomeOf (c .enum-told .given .1))
 
 enum-known-verdict : tie.Need-enum-known-verdict
 enum-known-verdict c = search needs
