@@ -7,12 +7,13 @@ use mathlib.Core.Path.{_≡_, refl, sym}
 use native.Mathlib.Numerals.{lt-of-le-of-ne}
 use native.Mathlib.Omega.{arith}
 use lib.Dec.{ltb}
-use lib.ListN.{length}
+use lib.ListN.{length, getD}
 use borrow.Author.Tests.{ltb-true, ltb-false, leb-false, eqb-true, eqb-false, not-false, le-ltb}
 use Rattle.layout.specs.Check.{unaligned, check, checksOf}
 use Rattle.layout.specs.Layout.{tablesOf}
 use Rattle.layout.specs.Size.{l1Span, inputLimit}
 use Rattle.layout.specs.Window.{devicesOf, windowsOf, slot}
+use Rattle.layout.specs.declared.Layout.{Layout}
 use Rattle.layout.specs.declared.Table.{Table}
 use Rattle.layout.specs.declared.Window.{Window}
 use Rattle.refusal.proofs.All.{all-at, all-map, all-both, pairs-map}
@@ -114,6 +115,10 @@ unfolding row6
 checked n applies base align e p =
     let f : (applies && unaligned base align) ≡ false = test _ _ _ e in aligned base align (rw p at f)
 
+passes :
+    (l : Layout) → each row6 (checksOf l) ≡ [] → (k : ℕ) → k < length (checksOf l) → row6 (getD (checksOf l) k (check 0 false 0 0)) ≡ []
+passes l e k h = all-at (λ c. row6 c ≡ []) (checksOf l) k (check 0 false 0 0) h (each-none row6 (checksOf l) e)
+
 pub accepted-facts : AcceptedFacts
 unfolding refusalsAt windowRows flatMap row5 row8
 accepted-facts limit l e =
@@ -130,17 +135,15 @@ accepted-facts limit l e =
     let r11 = both (pairs pairRows (windowsOf l)) [] (r10 .1) in
     let in-slots = each-none row9 (windowsOf l) (r9 .0) in
     let in-reach = each-none (row10 held) (windowsOf l) (r10 .0) in
-    let passes = λ (k : ℕ) (h : k < length (checksOf l)).
-    all-at (λ c. row6 c ≡ []) (checksOf l) k (check 0 false 0 0) h (each-none row6 (checksOf l) (r6 .0)) in
     record {
       lengths = all-map (λ w. row4 w ≡ []) _ whole (devicesOf l) (each-none row4 (devicesOf l) (r4 .0));
       frame-size = eqb-true _ _ (not-false _ (test _ _ _ (r5 .0)));
-      data-ipa = checked 1 true _ _ (passes 0 (omega arith)) refl;
-      data-pa = checked 2 true _ _ (passes 1 (omega arith)) refl;
-      sup-ipa = checked 3 true _ _ (passes 2 (omega arith)) refl;
-      sup-pa = checked 4 true _ _ (passes 3 (omega arith)) refl;
-      image = checked 5 _ _ _ (passes 4 (omega arith));
-      devices = (checked 6 _ _ _ (passes 5 (omega arith)), tt);
+      data-ipa = checked 1 true _ _ (passes l (r6 .0) 0 (omega arith)) refl;
+      data-pa = checked 2 true _ _ (passes l (r6 .0) 1 (omega arith)) refl;
+      sup-ipa = checked 3 true _ _ (passes l (r6 .0) 2 (omega arith)) refl;
+      sup-pa = checked 4 true _ _ (passes l (r6 .0) 3 (omega arith)) refl;
+      image = checked 5 _ _ _ (passes l (r6 .0) 4 (omega arith));
+      devices = (checked 6 _ _ _ (passes l (r6 .0) 5 (omega arith)), tt);
       tables = all-map (λ t. row7 held t ≡ []) _ (nameable held) (tablesOf l) (each-none (row7 held) (tablesOf l) (r7 .0));
       frames = leb-false _ _ (test _ _ _ (r8 .0));
       windows = all-map _ _ (within held) (windowsOf l) (all-both (λ w. row9 w ≡ []) (λ w. row10 held w ≡ []) (windowsOf l) in-slots in-reach);
