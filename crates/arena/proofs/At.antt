@@ -1,18 +1,22 @@
 -- The word that encoding into zeros leaves, by its table: callers use these laws and not the runs.
-use Prim.Native.Nat.{ℕ, _/_, _<_}
-use mathlib.Core.Bool.{Bool, true, false, _&&_}
-use mathlib.Core.List.{List, [], _∷_}
+use Prim.Native.Nat.{ℕ, _<_}
+use mathlib.Core.Bool.{Bool, true, false, _&&_, false≢true}
+use mathlib.Core.List.{List, [], _∷_, map}
 use mathlib.Core.Path.{_≡_, refl, sym, ap, _∙_}
 use native.Mathlib.Omega.{arith}
 use lib.Dec.{eqb, leb, ltb}
 use borrow.Author.Tests.{eqb-true, eqb-false, leb-true, ltb-true, ltb-false, ne-eqb}
 use Rattle.fields.specs.Named.{pick}
-use Rattle.layout.specs.Size.{block}
-use Rattle.layout.specs.Window.{imageWindow, deviceWindow, l1Slot, l2Slot, slot}
+use Rattle.layout.specs.Area.{area, areasOf, areaSlot, areaHas}
+use Rattle.layout.specs.Size.{tableCount}
+use Rattle.layout.specs.Window.{window, imageWindow, deviceWindow, l2Slot}
+use Rattle.layout.specs.declared.Area.{Area}
 use Rattle.layout.specs.declared.Layout.{Layout}
 use Rattle.layout.specs.declared.Window.{Window}
-use Rattle.arena.specs.Encoded.{Run, run, one, tableOf, indexOf, wordAt, overwrite, stored}
-use Rattle.arena.specs.Encoded.{deviceAt, pageRun, superRun, deviceRun, imageRuns, dataRuns, superRuns, deviceRuns, runsOf, cleared, encoded, target}
+use Rattle.refusal.proofs.All.{all-map}
+use Rattle.refusal.specs.All.{All, AllPairs}
+use Rattle.arena.specs.Encoded.{Run, one, presentRun, tableOf, indexOf, wordAt, overwrite, stored, cleared, encoded, target}
+use Rattle.arena.specs.Encoded.{pageRun, superRun, deviceRun, imageRun, pageTableRun, areaRun, upperRuns, leafRuns, runsOf}
 use Rattle.arena.specs.Word.{tableTo, imageTo}
 use Rattle.arena.proofs.Runs.{other, before, past, inside, empty}
 
@@ -20,6 +24,22 @@ use Rattle.arena.proofs.Runs.{other, before, past, inside, empty}
 abbrev pub only : ℕ → List Run → List Run
 only t [] = []
 only t (r ∷ rs) = pick (eqb t (r .table)) (r ∷ only t rs) (only t rs)
+
+-- they stand in tables of the arena, and past these there are none
+abbrev inTables : List Run → Bool
+inTables [] = true
+inTables (r ∷ rs) = leb (r .table) tableCount && inTables rs
+
+none-past : (rs : List Run) (t : ℕ) → tableCount < t → inTables rs ≡ true → only t rs ≡ []
+none-past [] t h e = refl
+none-past (r ∷ rs) t h e = go (leb (r .table) tableCount) refl e (λ f. none-past rs t h f)
+  where
+    go : (b : Bool) → leb (r .table) tableCount ≡ b → (b && inTables rs) ≡ true → (inTables rs ≡ true → only t rs ≡ []) →
+        only t (r ∷ rs) ≡ []
+    go true q f later =
+        let le = leb-true (r .table) tableCount q in
+        rw (ne-eqb t (r .table) (λ same. omega (arith, h, le, same))) (later f)
+    go false q f later = absurd (false≢true f)
 
 only-stored : (rs : List Run) (t i old : ℕ) → tableOf i ≡ t → stored rs i old ≡ stored (only t rs) i old
 unfolding stored
@@ -66,42 +86,64 @@ single t s w i old e some = go (eqb s (indexOf i)) refl
         ∙ ap (λ b. pick b old w) (ne-eqb w 0 some)
     go false q = ap (overwrite old) (beside (eqb-false s (indexOf i) q) (ltb (indexOf i) s) refl)
 
--- level 1 words by slot and table address, in order: the last at an index stands
-abbrev naming : List (ℕ × ℕ) → List Run
-naming [] = []
-naming (e ∷ es) = one 1 (e .0) (tableTo (e .1)) ∷ naming es
-
-abbrev lastAt : List (ℕ × ℕ) → ℕ → ℕ → ℕ
-lastAt [] j old = old
-lastAt (e ∷ es) j old = lastAt es j (pick (eqb (e .0) j) (tableTo (e .1)) old)
-
 names-some : (pa : ℕ) → tableTo pa ≡ 0 → ⊥
 names-some pa e = omega (arith, e)
 
 image-some : (pa : ℕ) → imageTo pa ≡ 0 → ⊥
 image-some pa e = omega (arith, e)
 
-named-last : (es : List (ℕ × ℕ)) (i old : ℕ) → tableOf i ≡ 1 → stored (naming es) i old ≡ lastAt es (indexOf i) old
+-- the same of a word that is there or not
+single-if :
+    (there : Bool) (t s w i old : ℕ) → tableOf i ≡ t → (w ≡ 0 → ⊥) →
+    overwrite old (wordAt (presentRun there (one t s w)) i) ≡ pick (there && eqb s (indexOf i)) w old
+single-if true t s w i old e some = single t s w i old e some
+single-if false t s w i old e some = ap (overwrite old) (empty t s (λ p. w) i)
+
+abbrev pub noArea : Area
+noArea = area (window 0 false 0 0 0) 0
+
+-- level 1 words of areas, in order: the last at an index stands
+abbrev pub lastAt : List Area → ℕ → ℕ → ℕ
+lastAt [] j old = old
+lastAt (a ∷ xs) j old = lastAt xs j (pick (areaHas a j) (tableTo (a .table)) old)
+
+-- one more: it stands where it has the index
+pub named-next :
+    (a : Area) (xs : List Area) (i old : ℕ) → tableOf i ≡ 1 →
+    stored (map areaRun (a ∷ xs)) i old ≡ stored (map areaRun xs) i (pick (areaHas a (indexOf i)) (tableTo (a .table)) old)
+unfolding stored
+named-next a xs i old t =
+    ap (stored (map areaRun xs) i) (single-if (a .present) 1 (areaSlot a) (tableTo (a .table)) i old t (names-some (a .table)))
+
+named-last : (xs : List Area) (i old : ℕ) → tableOf i ≡ 1 → stored (map areaRun xs) i old ≡ lastAt xs (indexOf i) old
 unfolding stored
 named-last [] i old t = refl
-named-last (e ∷ es) i old t =
-    ap (stored (naming es) i) (single 1 (e .0) (tableTo (e .1)) i old t (names-some (e .1)))
-    ∙ named-last es i (pick (eqb (e .0) (indexOf i)) (tableTo (e .1)) old) t
+named-last (a ∷ xs) i old t = named-next a xs i old t ∙ named-last xs i (pick (areaHas a (indexOf i)) (tableTo (a .table)) old) t
+
+-- where no area has the index
+pub last-none : (xs : List Area) (j old : ℕ) → All (λ a. areaHas a j ≡ false) xs → lastAt xs j old ≡ old
+last-none [] j old none = refl
+last-none (a ∷ xs) j old none = rw (none .0) (last-none xs j old (none .1))
+
+-- where no two have it, the one that does
+pub last-here :
+    (xs : List Area) (j old : ℕ) → AllPairs (λ a b. areaHas a j ≡ true → areaHas b j ≡ false) xs →
+    All (λ a. areaHas a j ≡ true → lastAt xs j old ≡ tableTo (a .table)) xs
+last-here [] j old apart = tt
+last-here (a ∷ xs) j old apart = (here, last-here xs j (pick (areaHas a j) (tableTo (a .table)) old) (apart .1))
+  where
+    here : areaHas a j ≡ true → lastAt (a ∷ xs) j old ≡ tableTo (a .table)
+    here e =
+        ap (λ b. lastAt xs j (pick b (tableTo (a .table)) old)) e
+        ∙ last-none xs j (tableTo (a .table)) (all-map _ (λ b. areaHas b j ≡ false) (λ b f. f e) xs (apart .0))
 
 module _ (l : Layout) where
   abbrev image : Window
   image = imageWindow (l .«guest_image_pa»)
 
-  abbrev there : Bool
-  there = deviceWindow l .present
-
   -- tables 1, 2 and 3 by an index
   abbrev pub l1At : ℕ → ℕ
-  l1At j =
-      pick (there && eqb (l1Slot (l .«device_base»)) j) (tableTo (l .«l2_dev_pa»))
-      (pick (eqb (l1Slot (l .«sup_ipa_base»)) j) (tableTo (l .«l2_sup_pa»))
-      (pick (eqb (l1Slot (l .«data_ipa_base»)) j) (tableTo (l .«l2_data_pa»))
-      (pick (image .present && eqb (slot image) j) (tableTo (l .«l2_code_pa»)) 0)))
+  l1At j = lastAt (areasOf l) j 0
 
   abbrev pub imageAt : ℕ → ℕ
   imageAt j = pick (image .present && eqb (l2Slot (image .ipa)) j) (imageTo (image .pa)) 0
@@ -114,117 +156,46 @@ module _ (l : Layout) (base sup : List ℕ) (i : ℕ) where
   unfolding encoded
   of-table t e = ap (stored (runsOf l base sup) i) (cleared-zero i) ∙ only-stored (runsOf l base sup) t i 0 e
 
-  -- slot and table address of each window's level 1 word
-  abbrev image-entry : ℕ × ℕ
-  image-entry = (slot (image l), l .«l2_code_pa»)
+  -- the word of its table's one run
+  at-run : (t : ℕ) (r : Run) → only t (runsOf l base sup) ≡ r ∷ [] → tableOf i ≡ t → target l base sup i ≡ wordAt r i
+  unfolding stored
+  at-run t r one-run e =
+      of-table t e ∙ ap (λ rs. stored rs i 0) one-run ∙ overwrite-zero (wordAt r i)
 
-  abbrev data-entry : ℕ × ℕ
-  data-entry = (l1Slot (l .«data_ipa_base»), l .«l2_data_pa»)
-
-  abbrev super-entry : ℕ × ℕ
-  super-entry = (l1Slot (l .«sup_ipa_base»), l .«l2_sup_pa»)
-
-  abbrev device-entry : ℕ × ℕ
-  device-entry = (l1Slot (l .«device_base»), l .«l2_dev_pa»)
-
-  runs-1 :
-      (p d : Bool) →
-      image l .present ≡ p → there l ≡ d → tableOf i ≡ 1 → stored (only 1 (runsOf l base sup)) i 0 ≡ l1At l (indexOf i)
-  unfolding imageRuns dataRuns superRuns deviceRuns stored
-  runs-1 true true e f t = rw (e, f) (named-last (image-entry ∷ data-entry ∷ super-entry ∷ device-entry ∷ []) i 0 t)
-  runs-1 true false e f t = rw (e, f) (named-last (image-entry ∷ data-entry ∷ super-entry ∷ []) i 0 t)
-  runs-1 false true e f t = rw (e, f) (named-last (data-entry ∷ super-entry ∷ device-entry ∷ []) i 0 t)
-  runs-1 false false e f t = rw (e, f) (named-last (data-entry ∷ super-entry ∷ []) i 0 t)
+  pub at-areas : tableOf i ≡ 1 → target l base sup i ≡ stored (map areaRun (areasOf l)) i 0
+  unfolding upperRuns leafRuns
+  at-areas t = of-table 1 t
 
   pub at-1 : tableOf i ≡ 1 → target l base sup i ≡ l1At l (indexOf i)
-  at-1 t = of-table 1 t ∙ runs-1 (image l .present) (there l) refl refl t
-
-  image-block :
-      tableOf i ≡ 2 →
-      overwrite 0 (wordAt (one 2 (l2Slot (image l .ipa)) (imageTo (image l .pa))) i)
-      ≡ pick (eqb (l2Slot (image l .ipa)) (indexOf i)) (imageTo (image l .pa)) 0
-  image-block t = single 2 (l2Slot (image l .ipa)) (imageTo (image l .pa)) i 0 t (image-some (image l .pa))
-
-  runs-2 :
-      (p d : Bool) →
-      image l .present ≡ p → there l ≡ d → tableOf i ≡ 2 → stored (only 2 (runsOf l base sup)) i 0 ≡ imageAt l (indexOf i)
-  unfolding imageRuns dataRuns superRuns deviceRuns stored
-  runs-2 true true e f t = rw (e, f) (image-block t)
-  runs-2 true false e f t = rw (e, f) (image-block t)
-  runs-2 false true e f t = rw (e, f)
-  runs-2 false false e f t = rw (e, f)
+  at-1 t = at-areas t ∙ named-last (areasOf l) i 0 t
 
   pub at-2 : tableOf i ≡ 2 → target l base sup i ≡ imageAt l (indexOf i)
-  at-2 t = of-table 2 t ∙ runs-2 (image l .present) (there l) refl refl t
-
-  page-table :
-      tableOf i ≡ 3 →
-      overwrite 0 (wordAt (one 3 (l2Slot (l .«data_ipa_base»)) (tableTo (l .«l3_data_pa»))) i) ≡ dataAt l (indexOf i)
-  page-table t = single 3 (l2Slot (l .«data_ipa_base»)) (tableTo (l .«l3_data_pa»)) i 0 t (names-some (l .«l3_data_pa»))
-
-  runs-3 :
-      (p d : Bool) →
-      image l .present ≡ p → there l ≡ d → tableOf i ≡ 3 → stored (only 3 (runsOf l base sup)) i 0 ≡ dataAt l (indexOf i)
-  unfolding imageRuns dataRuns superRuns deviceRuns stored
-  runs-3 true true e f t = rw (e, f) (page-table t)
-  runs-3 true false e f t = rw (e, f) (page-table t)
-  runs-3 false true e f t = rw (e, f) (page-table t)
-  runs-3 false false e f t = rw (e, f) (page-table t)
+  unfolding upperRuns leafRuns
+  at-2 t =
+      at-run 2 (imageRun l) refl t
+      ∙ sym (overwrite-zero (wordAt (imageRun l) i))
+      ∙ single-if (image l .present) 2 (l2Slot (image l .ipa)) (imageTo (image l .pa)) i 0 t (image-some (image l .pa))
 
   pub at-3 : tableOf i ≡ 3 → target l base sup i ≡ dataAt l (indexOf i)
-  at-3 t = of-table 3 t ∙ runs-3 (image l .present) (there l) refl refl t
-
-  runs-4 :
-      (p d : Bool) → image l .present ≡ p → there l ≡ d → stored (only 4 (runsOf l base sup)) i 0 ≡ wordAt (pageRun l base) i
-  unfolding imageRuns dataRuns superRuns deviceRuns stored
-  runs-4 true true e f = rw (e, f) (overwrite-zero (wordAt (pageRun l base) i))
-  runs-4 true false e f = rw (e, f) (overwrite-zero (wordAt (pageRun l base) i))
-  runs-4 false true e f = rw (e, f) (overwrite-zero (wordAt (pageRun l base) i))
-  runs-4 false false e f = rw (e, f) (overwrite-zero (wordAt (pageRun l base) i))
+  unfolding upperRuns leafRuns
+  at-3 t =
+      at-run 3 (pageTableRun l) refl t
+      ∙ sym (overwrite-zero (wordAt (pageTableRun l) i))
+      ∙ single 3 (l2Slot (l .«data_ipa_base»)) (tableTo (l .«l3_data_pa»)) i 0 t (names-some (l .«l3_data_pa»))
 
   pub at-4 : tableOf i ≡ 4 → target l base sup i ≡ wordAt (pageRun l base) i
-  at-4 t = of-table 4 t ∙ runs-4 (image l .present) (there l) refl refl
-
-  runs-5 :
-      (p d : Bool) → image l .present ≡ p → there l ≡ d → stored (only 5 (runsOf l base sup)) i 0 ≡ wordAt (superRun l sup) i
-  unfolding imageRuns dataRuns superRuns deviceRuns stored
-  runs-5 true true e f = rw (e, f) (overwrite-zero (wordAt (superRun l sup) i))
-  runs-5 true false e f = rw (e, f) (overwrite-zero (wordAt (superRun l sup) i))
-  runs-5 false true e f = rw (e, f) (overwrite-zero (wordAt (superRun l sup) i))
-  runs-5 false false e f = rw (e, f) (overwrite-zero (wordAt (superRun l sup) i))
+  unfolding upperRuns leafRuns
+  at-4 = at-run 4 (pageRun l base) refl
 
   pub at-5 : tableOf i ≡ 5 → target l base sup i ≡ wordAt (superRun l sup) i
-  at-5 t = of-table 5 t ∙ runs-5 (image l .present) (there l) refl refl
+  unfolding upperRuns leafRuns
+  at-5 = at-run 5 (superRun l sup) refl
 
-  no-device : ltb 0 (l .«device_len») ≡ false → wordAt (deviceRun l) i ≡ 0
-  no-device e =
-      let h = ltb-false 0 (l .«device_len») e in
-      let none : l .«device_len» / block ≡ 0 = omega (arith, h) in
-      ap (λ (n : ℕ). wordAt (run 6 (l2Slot (l .«device_base»)) n (deviceAt (l .«device_base»))) i) none
-      ∙ empty 6 (l2Slot (l .«device_base»)) (deviceAt (l .«device_base»)) i
+  pub at-6 : tableOf i ≡ 6 → target l base sup i ≡ wordAt (deviceRun 6 (deviceWindow l)) i
+  unfolding upperRuns leafRuns
+  at-6 = at-run 6 (deviceRun 6 (deviceWindow l)) refl
 
-  runs-6 :
-      (p d : Bool) → image l .present ≡ p → there l ≡ d → stored (only 6 (runsOf l base sup)) i 0 ≡ wordAt (deviceRun l) i
-  unfolding imageRuns dataRuns superRuns deviceRuns stored
-  runs-6 true true e f = rw (e, f) (overwrite-zero (wordAt (deviceRun l) i))
-  runs-6 true false e f = rw (e, f) (sym (no-device f))
-  runs-6 false true e f = rw (e, f) (overwrite-zero (wordAt (deviceRun l) i))
-  runs-6 false false e f = rw (e, f) (sym (no-device f))
-
-  pub at-6 : tableOf i ≡ 6 → target l base sup i ≡ wordAt (deviceRun l) i
-  at-6 t = of-table 6 t ∙ runs-6 (image l .present) (there l) refl refl
-
-  -- past table 6
-  module _ (h : 6 < tableOf i) where
-    no : (k : ℕ) → leb k 6 ≡ true → eqb (tableOf i) k ≡ false
-    no k le = ne-eqb (tableOf i) k (λ e. omega (arith, h, leb-true k 6 le, e))
-
-    runs-none : (p d : Bool) → image l .present ≡ p → there l ≡ d → stored (only (tableOf i) (runsOf l base sup)) i 0 ≡ 0
-    unfolding imageRuns dataRuns superRuns deviceRuns stored
-    runs-none true true e f = rw (e, f, no 1 refl, no 2 refl, no 3 refl, no 4 refl, no 5 refl, no 6 refl)
-    runs-none true false e f = rw (e, f, no 1 refl, no 2 refl, no 3 refl, no 4 refl, no 5 refl)
-    runs-none false true e f = rw (e, f, no 1 refl, no 3 refl, no 4 refl, no 5 refl, no 6 refl)
-    runs-none false false e f = rw (e, f, no 1 refl, no 3 refl, no 4 refl, no 5 refl)
-
-    pub at-none : target l base sup i ≡ 0
-    at-none = of-table (tableOf i) refl ∙ runs-none (image l .present) (there l) refl refl
+  -- past the last table
+  pub at-none : tableCount < tableOf i → target l base sup i ≡ 0
+  unfolding upperRuns leafRuns stored
+  at-none h = of-table (tableOf i) refl ∙ ap (λ rs. stored rs i 0) (none-past (runsOf l base sup) (tableOf i) h refl)

@@ -1,17 +1,20 @@
 -- How stores of many words are joined.
 use Prim.Native.Nat.{ℕ, _+_, _-_, _*_, _<_, _≤_}
 use mathlib.Core.Bool.{Bool, true, false}
-use mathlib.Core.List.{List, [], _∷_, _++_}
+use mathlib.Core.List.{List, [], _∷_, _++_, map, map-append}
 use mathlib.Core.Path.{_≡_, refl, sym, ap, ap₂, _∙_}
+use native.Mathlib.Numerals.{add-one}
 use native.Mathlib.Omega.{arith}
 use lib.Dec.{eqb, ltb}
-use lib.ListN.{length, getD, set, length-set}
-use lib.Seq.{getD-set-same, getD-set-other}
+use lib.ListN.{length, getD, set, take, length-set}
+use lib.Seq.{take-suc, getD-set-same, getD-set-other}
 use borrow.Author.Tests.{eqb-true, eqb-false, ltb-true, ltb-false, ne-eqb}
 use Rattle.fields.specs.Named.{pick}
 use Rattle.layout.specs.Size.{entries}
-use Rattle.arena.specs.Encoded.{Run, run, one, tableOf, indexOf, wordAt, overwrite, stored}
+use Rattle.layout.specs.declared.Area.{Area}
+use Rattle.arena.specs.Encoded.{Run, run, one, presentRun, tableOf, indexOf, wordAt, overwrite, stored, areaRun}
 use Rattle.arena.specs.Over.{Over}
+use Rattle.arena.proofs.At.{noArea}
 use Rattle.arena.proofs.Runs.{other, before, past, inside, grows, stored-append, empty, no-word}
 
 pub over-then :
@@ -124,3 +127,25 @@ pub over-placed :
     (t j k w v : ℕ) (xs ys : List ℕ) →
     j ≡ k → w ≡ v → Over (stored (one t j w ∷ [])) xs ys → Over (stored (one t k v ∷ [])) xs ys
 over-placed t j k w v xs ys e f = over-runs (one t j w ∷ []) (one t k v ∷ []) xs ys (ap₂ (λ a b. one t a b ∷ []) e f)
+
+-- the words of areas, one more
+pub over-area :
+    (areas : List Area) (k : ℕ) (xs ys zs : List ℕ) →
+    k < length areas →
+    Over (stored (map areaRun (take k areas))) xs ys →
+    Over (stored (areaRun (getD areas k noArea) ∷ [])) ys zs → Over (stored (map areaRun (take (k + 1) areas))) xs zs
+over-area areas k xs ys zs h a b =
+    let next = getD areas k noArea in
+    over-runs (map areaRun (take k areas) ++ (areaRun next ∷ [])) (map areaRun (take (k + 1) areas)) xs zs
+    (rw (add-one, take-suc areas k noArea h) (sym (map-append areaRun (take k areas) (next ∷ []))))
+    (over-append (map areaRun (take k areas)) (areaRun next ∷ []) xs ys zs a b)
+
+-- a run that is there, or not
+pub over-there :
+    (there : Bool) (r : Run) (xs ys : List ℕ) →
+    there ≡ true → Over (stored (presentRun true r ∷ [])) xs ys → Over (stored (presentRun there r ∷ [])) xs ys
+over-there there r xs ys e = over-runs _ (presentRun there r ∷ []) xs ys (ap (λ b. presentRun b r ∷ []) (sym e))
+
+pub over-absent : (there : Bool) (r : Run) (xs : List ℕ) → there ≡ false → Over (stored (presentRun there r ∷ [])) xs xs
+over-absent there r xs e =
+    over-runs _ (presentRun there r ∷ []) xs xs (ap (λ b. presentRun b r ∷ []) (sym e)) (over-none (r .table) (r .from) (r .word) xs)

@@ -7,10 +7,7 @@ use native.Mathlib.Omega.{arith}
 use lib.Dec.{eqb, leb, ltb}
 use borrow.Author.Tests.{ltb-true, ltb-false, leb-true, leb-false, eqb-true, lt-ltb, le-ltb, le-leb, lt-leb, eq-eqb}
 use Rattle.fields.specs.Named.{pick}
-use Rattle.layout.specs.Window.{slot}
-use Rattle.layout.specs.declared.Window.{Window}
-use Rattle.arena.specs.Encoded.{Run, run, one, tableOf, indexOf, wordAt, overwrite, stored, windowRuns}
-use Rattle.arena.specs.Word.{tableTo}
+use Rattle.arena.specs.Encoded.{Run, run, one, tableOf, indexOf, wordAt, overwrite, stored}
 
 second-false : (a b c : Bool) → b ≡ false → (a && b && c) ≡ false
 second-false true true c e = absurd (false≢true (sym e))
@@ -149,11 +146,3 @@ module _
         by-table : (b : Bool) → eqb (tableOf i) t ≡ b → wordAt (run t f n word) i ≡ wordAt (run t f m word) i
         by-table true e = by-start (eqb-true _ _ e) (leb f (indexOf i)) refl
         by-table false e = other t f n word i e ∙ sym (other t f m word i e)
-
--- a window's runs, by its presence
-module _ (w : Window) (pa : ℕ) (below : List Run) where
-  pub present : w .present ≡ true → windowRuns w pa below ≡ one 1 (slot w) (tableTo pa) ∷ below
-  present e = rw e
-
-  pub absent : w .present ≡ false → windowRuns w pa below ≡ []
-  absent e = rw e

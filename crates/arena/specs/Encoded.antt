@@ -1,12 +1,14 @@
 -- The arena that encoding leaves, by document 01 ("Arena"): tables 4 to 6 are cleared, and runs of words are stored.
 use Prim.Native.Nat.{ℕ, _+_, _-_, _*_, _/_, _%_}
 use mathlib.Core.Bool.{Bool, _&&_}
-use mathlib.Core.List.{List, [], _∷_, _++_, foldl}
+use mathlib.Core.List.{List, [], _∷_, _++_, map, foldl}
 use lib.Dec.{eqb, leb, ltb}
 use lib.ListN.{getD}
 use Rattle.fields.specs.Named.{pick}
+use Rattle.layout.specs.Area.{areasOf, areaSlot}
 use Rattle.layout.specs.Size.{entries, page, block}
-use Rattle.layout.specs.Window.{imageWindow, dataWindow, superWindow, deviceWindow, l2Slot, slot}
+use Rattle.layout.specs.Window.{imageWindow, deviceWindow, l2Slot}
+use Rattle.layout.specs.declared.Area.{Area}
 use Rattle.layout.specs.declared.Layout.{Layout}
 use Rattle.layout.specs.declared.Window.{Window}
 use Rattle.arena.specs.Word.{tableTo, pageTo, blockTo, imageTo, deviceTo, leafFor}
@@ -25,7 +27,11 @@ run t j n word = record { table = t; from = j; count = n; word = word }
 abbrev pub one : ℕ → ℕ → ℕ → Run
 one t j w = run t j 1 (λ p. w)
 
--- word i of the arena stands in one of tables 1 to 6, at an index
+-- a run that is there or not: then it has no word
+abbrev pub presentRun : Bool → Run → Run
+presentRun there r = run (r .table) (r .from) (pick there (r .count) 0) (r .word)
+
+-- word i of the arena stands in one of its tables, at an index
 abbrev pub tableOf : ℕ → ℕ
 tableOf i = 1 + i / entries
 
@@ -64,34 +70,35 @@ abbrev pub superRun : Layout → List ℕ → Run
 superRun l sup =
     run 5 (l2Slot (l .«sup_ipa_base»)) (l .«sup_frames») (superAt (l .«sup_pa_base») (l .«sup_wx_exempt») sup)
 
-abbrev pub deviceRun : Layout → Run
-deviceRun l = run 6 (l2Slot (l .«device_base»)) (l .«device_len» / block) (deviceAt (l .«device_base»))
+-- a device that is absent has no length
+abbrev pub deviceRun : ℕ → Window → Run
+deviceRun t w = run t (l2Slot (w .ipa)) (w .span / block) (deviceAt (w .ipa))
 
--- a window that is present has a level 1 word, which names its table, and the words below it
-abbrev pub windowRuns : Window → ℕ → List Run → List Run
-windowRuns w pa below = pick (w .present) (one 1 (slot w) (tableTo pa) ∷ below) []
-
-unfoldable pub imageRuns : Layout → List Run
-imageRuns l =
+abbrev pub imageRun : Layout → Run
+imageRun l =
     let image = imageWindow (l .«guest_image_pa») in
-    windowRuns image (l .«l2_code_pa») (one 2 (l2Slot (image .ipa)) (imageTo (image .pa)) ∷ [])
+    presentRun (image .present) (one 2 (l2Slot (image .ipa)) (imageTo (image .pa)))
 
-unfoldable pub dataRuns : Layout → List ℕ → List Run
-dataRuns l base =
-    windowRuns (dataWindow l) (l .«l2_data_pa»)
-    (one 3 (l2Slot (l .«data_ipa_base»)) (tableTo (l .«l3_data_pa»)) ∷ pageRun l base ∷ [])
+-- the table of data's pages
+abbrev pub pageTableRun : Layout → Run
+pageTableRun l = one 3 (l2Slot (l .«data_ipa_base»)) (tableTo (l .«l3_data_pa»))
 
-unfoldable pub superRuns : Layout → List ℕ → List Run
-superRuns l sup = windowRuns (superWindow l) (l .«l2_sup_pa») (superRun l sup ∷ [])
+-- a window that is present has a level 1 word, which names its table
+abbrev pub areaRun : Area → Run
+areaRun a = presentRun (a .present) (one 1 (areaSlot a) (tableTo (a .table)))
 
-unfoldable pub deviceRuns : Layout → List Run
-deviceRuns l = windowRuns (deviceWindow l) (l .«l2_dev_pa») (deviceRun l ∷ [])
+-- tables 1 to 3: a word for each area, the image's block, and the table of data's pages
+unfoldable pub upperRuns : Layout → List Run
+upperRuns l = map areaRun (areasOf l) ++ (imageRun l ∷ pageTableRun l ∷ [])
 
--- image, data, super, device
+-- table 4 and on: the leaves of pages, supers and devices
+unfoldable pub leafRuns : Layout → List ℕ → List ℕ → List Run
+leafRuns l base sup = pageRun l base ∷ superRun l sup ∷ deviceRun 6 (deviceWindow l) ∷ []
+
 abbrev pub runsOf : Layout → List ℕ → List ℕ → List Run
-runsOf l base sup = imageRuns l ++ (dataRuns l base ++ (superRuns l sup ++ deviceRuns l))
+runsOf l base sup = upperRuns l ++ leafRuns l base sup
 
--- tables 4 to 6 alone are cleared
+-- the tables of leaves alone are cleared, from table 4 on
 abbrev pub cleared : ℕ → ℕ → ℕ
 cleared i old = pick (ltb 3 (tableOf i)) 0 old
 

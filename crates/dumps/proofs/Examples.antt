@@ -1,7 +1,7 @@
 -- The examples of the dump, by computing.
 use mathlib.Core.List.{flatMap}
 use mathlib.Core.Path.{refl}
-use Rattle.arena.specs.Encoded.{encoded, stored, wordAt, imageRuns, dataRuns, superRuns, deviceRuns}
+use Rattle.arena.specs.Encoded.{encoded, stored, wordAt, upperRuns, leafRuns}
 use Rattle.dump.specs.Dump.{dump, printedOf, inOrder, lineAt}
 use Rattle.layout.specs.Layout.{layoutOf}
 use Rattle.printed.specs.Line.{badLine, decimal, refusedLine}
@@ -14,11 +14,11 @@ use Rattle.scene_text.specs.Text.{readFrom, linesOf}
 use Rattle.dumps.specs.Examples.{SceneS, Examples}
 
 pub scene-S : SceneS
-unfolding dump printedOf inOrder lineAt wordLine badLine decimal refusedLine readFrom linesOf lineOf saidAfter said firstSpace numberOf digitOf withField layoutOf first flatMap eachFrom pairs row2 row3 row4 row5 row6 row7 row8 row9 row10 row13 row14 lengthRows mapRows pairRows windowRows refusalsAt guardRows encoded stored wordAt imageRuns dataRuns superRuns deviceRuns
+unfolding dump printedOf inOrder lineAt wordLine badLine decimal refusedLine readFrom linesOf lineOf saidAfter said firstSpace numberOf digitOf withField layoutOf first flatMap eachFrom pairs row2 row3 row4 row5 row6 row7 row8 row9 row10 row13 row14 lengthRows mapRows pairRows windowRows refusalsAt guardRows encoded stored wordAt upperRuns leafRuns
 scene-S = refl
 
 pub examples : Examples
-unfolding dump printedOf inOrder lineAt wordLine badLine decimal refusedLine readFrom linesOf lineOf saidAfter said firstSpace numberOf digitOf withField layoutOf first flatMap eachFrom pairs row2 row3 row4 row5 row6 row7 row8 row9 row10 row13 row14 lengthRows mapRows pairRows windowRows refusalsAt guardRows encoded stored wordAt imageRuns dataRuns superRuns deviceRuns
+unfolding dump printedOf inOrder lineAt wordLine badLine decimal refusedLine readFrom linesOf lineOf saidAfter said firstSpace numberOf digitOf withField layoutOf first flatMap eachFrom pairs row2 row3 row4 row5 row6 row7 row8 row9 row10 row13 row14 lengthRows mapRows pairRows windowRows refusalsAt guardRows encoded stored wordAt upperRuns leafRuns
 examples =
     record {
       empty = refl;

@@ -1,13 +1,16 @@
 -- What rows 1 to 14 let by fits its tables: a window lies in one 1 GiB slot.
 use Prim.Native.Nat.{ℕ, _+_, _*_, _/_, _%_, _≤_, _<_}
+use mathlib.Core.Bool.{Bool, true, false}
 use mathlib.Core.List.{List}
 use mathlib.Core.Path.{_≡_, refl}
 use native.Mathlib.Omega.{arith}
 use lib.ListN.{length}
+use borrow.Author.Tests.{ltb-false}
 use Rattle.accepted.specs.Guarded.{Guarded}
 use Rattle.layout.specs.Size.{entries, block, l1Span}
+use Rattle.layout.specs.Window.{deviceWindow}
 use Rattle.layout.specs.declared.Layout.{Layout}
-use Rattle.encode.specs.Fits.{SupersFit, DevicesFit}
+use Rattle.encode.specs.Fits.{SupersFit, DeviceFits}
 
 super-slot :
     (ipa frames p : ℕ) →
@@ -32,7 +35,11 @@ module _ (limit : ℕ) (base sup : List ℕ) (l : Layout) (guarded : Guarded lim
         backed = guarded .backed;
       }
 
-  pub devices-fit : DevicesFit l
-  devices-fit there =
-      let layout = guarded .layout in
-      device-slots (l .«device_base») (l .«device_len») (layout .device there) (layout .windows .1 .1 .1 .0 there .inside)
+  pub device-fits : DeviceFits (deviceWindow l)
+  device-fits = go (deviceWindow l .present) refl
+    where
+      go : (b : Bool) → deviceWindow l .present ≡ b → DeviceFits (deviceWindow l)
+      go true there =
+          let layout = guarded .layout in
+          device-slots (l .«device_base») (l .«device_len») (layout .devices .0 there) (layout .windows .1 .1 .1 .0 there .inside)
+      go false absent = let none = ltb-false 0 (l .«device_len») absent in omega (arith, none)

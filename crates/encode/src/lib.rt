@@ -1,16 +1,18 @@
 // The words that the machine walks (hv-s2's arm64.rs, `encode`).
+use layout::Area;
 use layout::Layout;
+use layout::Window;
 use refusal::Verdict;
 ghost use Prim.Native.Nat.{ℕ, _+_, _*_, _/_, _≤_, _<_};
-ghost use mathlib.Core.List.{[], _∷_};
+ghost use mathlib.Core.List.{[], _∷_, map};
 ghost use mathlib.Core.Path.{_≡_};
 ghost use lib.ListN.{length, getD};
-ghost use Rattle.arena.specs.Encoded.{run, one, stored, pageAt, superAt, deviceAt};
-ghost use Rattle.arena.specs.Encoded.{imageRuns, dataRuns, superRuns, deviceRuns, cleared, encoded};
+ghost use Rattle.arena.specs.Encoded.{run, one, stored, pageAt, superAt, superRun, deviceRun, imageRun, areaRun, upperRuns, leafRuns, cleared, encoded};
 ghost use Rattle.arena.specs.Over.{Over};
 ghost use Rattle.encode.specs.Encoding.{Encoding};
-ghost use Rattle.encode.specs.Fits.{SupersFit, DevicesFit};
-ghost use Rattle.layout.specs.Size.{entries, boardLimit, arenaLength};
+ghost use Rattle.encode.specs.Fits.{SupersFit, DeviceFits};
+ghost use Rattle.layout.specs.Size.{entries, boardLimit, tableCount, arenaLength};
+ghost use Rattle.layout.specs.Window.{deviceWindow};
 ghost use Rattle.refusal.specs.Outcome.{outcomeOf};
 
 // Rows 1 to 14 come before the first store.
@@ -37,17 +39,15 @@ fn encode_guarded(arena: &mut [u64], base: &[u8], sup: &[u8], l: Layout)
     requires { ⌜ length (now arena) ≡ arenaLength ⌝ }
     requires { ⌜ length (now base) ≤ entries ⌝ }
     requires { ⌜ SupersFit l (now sup) ⌝ }
-    requires { ⌜ DevicesFit l ⌝ }
+    requires { ⌜ DeviceFits (deviceWindow l) ⌝ }
     ensures { λ _. ⌜ Over (encoded l (now (base .entry)) (now (sup .entry))) (now (arena .entry)) (now (arena .exit)) ⌝ }
 {
     clear(arena);
-    encode_image(arena, l);
-    encode_data(arena, base, l);
-    encode_super(arena, sup, l);
-    encode_device(arena, l);
+    encode_upper(arena, l);
+    encode_leaves(arena, base, sup, l);
 }
 
-// Tables 4 to 6 whole, so that no leaf of another guest remains.
+// Table 4 and on whole, so that no leaf of another guest remains.
 fn clear(arena: &mut [u64])
     requires { ⌜ length (now arena) ≡ arenaLength ⌝ }
     ensures { λ _. ⌜ Over cleared (now (arena .entry)) (now (arena .exit)) ⌝ }
@@ -57,63 +57,78 @@ fn clear(arena: &mut [u64])
     }
 }
 
-fn encode_image(arena: &mut [u64], l: Layout)
+// Tables 1 to 3.
+fn encode_upper(arena: &mut [u64], l: Layout)
     requires { ⌜ length (now arena) ≡ arenaLength ⌝ }
-    ensures { λ _. ⌜ Over (stored (imageRuns l)) (now (arena .entry)) (now (arena .exit)) ⌝ }
+    ensures { λ _. ⌜ Over (stored (upperRuns l)) (now (arena .entry)) (now (arena .exit)) ⌝ }
+{
+    put_areas(arena, l.areas());
+    put_image(arena, l);
+    let index = Layout::l2_index(l.data_ipa_base) as usize;
+    put(arena, 3, index, arena::table_word(l.l3_data_pa));
+}
+
+// Table 4 and on.
+fn encode_leaves(arena: &mut [u64], base: &[u8], sup: &[u8], l: Layout)
+    requires { ⌜ length (now arena) ≡ arenaLength ⌝ }
+    requires { ⌜ length (now base) ≤ entries ⌝ }
+    requires { ⌜ SupersFit l (now sup) ⌝ }
+    requires { ⌜ DeviceFits (deviceWindow l) ⌝ }
+    ensures { λ _. ⌜ Over (stored (leafRuns l (now (base .entry)) (now (sup .entry)))) (now (arena .entry)) (now (arena .exit)) ⌝ }
+{
+    put_pages(arena, base, l.data_pa_base);
+    encode_super(arena, sup, l);
+    put_device(arena, 6, l.device_window());
+}
+
+// Table 1.
+fn put_areas(arena: &mut [u64], areas: [Area; Layout::WINDOWS])
+    requires { ⌜ length (now arena) ≡ arenaLength ⌝ }
+    ensures { λ _. ⌜ Over (stored (map areaRun areas)) (now (arena .entry)) (now (arena .exit)) ⌝ }
+{
+    for i in 0..Layout::WINDOWS {
+        put_area(arena, areas[i]);
+    }
+}
+
+fn put_area(arena: &mut [u64], a: Area)
+    requires { ⌜ length (now arena) ≡ arenaLength ⌝ }
+    ensures { λ _. ⌜ Over (stored (areaRun a ∷ [])) (now (arena .entry)) (now (arena .exit)) ⌝ }
+{
+    if a.present {
+        let slot = a.l1_index() as usize;
+        put(arena, 1, slot, arena::table_word(a.table));
+    }
+}
+
+// Table 2.
+fn put_image(arena: &mut [u64], l: Layout)
+    requires { ⌜ length (now arena) ≡ arenaLength ⌝ }
+    ensures { λ _. ⌜ Over (stored (imageRun l ∷ [])) (now (arena .entry)) (now (arena .exit)) ⌝ }
 {
     let image_pa = l.guest_image_pa;
     let image = image_pa.window();
     if image.present {
-        let slot = image.l1_index() as usize;
-        put(arena, 1, slot, arena::table_word(l.l2_code_pa));
-        let below = Layout::l2_index(image.ipa) as usize;
-        put(arena, 2, below, arena::image_word(image.pa));
+        let index = Layout::l2_index(image.ipa) as usize;
+        put(arena, 2, index, arena::image_word(image.pa));
     }
 }
 
-fn encode_data(arena: &mut [u64], base: &[u8], l: Layout)
-    requires { ⌜ length (now arena) ≡ arenaLength ⌝ }
-    requires { ⌜ length (now base) ≤ entries ⌝ }
-    ensures { λ _. ⌜ Over (stored (dataRuns l (now (base .entry)))) (now (arena .entry)) (now (arena .exit)) ⌝ }
-{
-    let slot = Layout::l1_index(l.data_ipa_base) as usize;
-    put(arena, 1, slot, arena::table_word(l.l2_data_pa));
-    let below = Layout::l2_index(l.data_ipa_base) as usize;
-    put(arena, 3, below, arena::table_word(l.l3_data_pa));
-    put_pages(arena, base, l.data_pa_base);
-}
-
+// Table 5: none is mapped at or past sup_frames.
 fn encode_super(arena: &mut [u64], sup: &[u8], l: Layout)
     requires { ⌜ length (now arena) ≡ arenaLength ⌝ }
     requires { ⌜ SupersFit l (now sup) ⌝ }
-    ensures { λ _. ⌜ Over (stored (superRuns l (now (sup .entry)))) (now (arena .entry)) (now (arena .exit)) ⌝ }
+    ensures { λ _. ⌜ Over (stored (superRun l (now (sup .entry)) ∷ [])) (now (arena .entry)) (now (arena .exit)) ⌝ }
 {
-    let slot = Layout::l1_index(l.sup_ipa_base) as usize;
-    put(arena, 1, slot, arena::table_word(l.l2_sup_pa));
     let from = Layout::l2_index(l.sup_ipa_base) as usize;
     put_supers(arena, sup, from, l.sup_pa_base, l.sup_wx_exempt);
-}
-
-fn encode_device(arena: &mut [u64], l: Layout)
-    requires { ⌜ length (now arena) ≡ arenaLength ⌝ }
-    requires { ⌜ DevicesFit l ⌝ }
-    ensures { λ _. ⌜ Over (stored (deviceRuns l)) (now (arena .entry)) (now (arena .exit)) ⌝ }
-{
-    let device = l.device_window();
-    if device.present {
-        let slot = device.l1_index() as usize;
-        put(arena, 1, slot, arena::table_word(l.l2_dev_pa));
-        let from = Layout::l2_index(l.device_base) as usize;
-        let count = (l.device_len / Layout::BLOCK_SIZE) as usize;
-        put_devices(arena, from, l.device_base, count);
-    }
 }
 
 // A word at its place, unless it is none.
 fn put(arena: &mut [u64], table: usize, index: usize, word: u64)
     requires { ⌜ length (now arena) ≡ arenaLength ⌝ }
     requires { ⌜ 0 < table ⌝ }
-    requires { ⌜ table ≤ 6 ⌝ }
+    requires { ⌜ table ≤ tableCount ⌝ }
     requires { ⌜ ((word ≡ 0 → ⊥) → index < entries) ⌝ }
     ensures { λ _. ⌜ Over (stored (one table index word ∷ [])) (now (arena .entry)) (now (arena .exit)) ⌝ }
 {
@@ -151,13 +166,17 @@ fn put_supers(arena: &mut [u64], sup: &[u8], from: usize, pa: u64, exempt: bool)
     }
 }
 
-// Table 6: the blocks of the device window.
-fn put_devices(arena: &mut [u64], from: usize, base: u64, count: usize)
+// The blocks of a device window, in its table.
+fn put_device(arena: &mut [u64], table: usize, w: Window)
     requires { ⌜ length (now arena) ≡ arenaLength ⌝ }
-    requires { ⌜ from + count ≤ entries ⌝ }
-    ensures { λ _. ⌜ Over (stored (run 6 from count (deviceAt base) ∷ [])) (now (arena .entry)) (now (arena .exit)) ⌝ }
+    requires { ⌜ 0 < table ⌝ }
+    requires { ⌜ table ≤ tableCount ⌝ }
+    requires { ⌜ DeviceFits w ⌝ }
+    ensures { λ _. ⌜ Over (stored (deviceRun table w ∷ [])) (now (arena .entry)) (now (arena .exit)) ⌝ }
 {
+    let from = Layout::l2_index(w.ipa) as usize;
+    let count = (w.span / Layout::BLOCK_SIZE) as usize;
     for m in 0..count {
-        put(arena, 6, from + m, arena::device_word(base, m as u32));
+        put(arena, table, from + m, arena::device_word(w.ipa, m as u32));
     }
 }

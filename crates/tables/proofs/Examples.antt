@@ -1,11 +1,11 @@
 -- The words of scene S, by computing.
 use mathlib.Core.Path.{refl}
-use Rattle.arena.specs.Encoded.{encoded, stored, wordAt, imageRuns, dataRuns, superRuns, deviceRuns}
+use Rattle.arena.specs.Encoded.{encoded, stored, wordAt, upperRuns, leafRuns}
 use Rattle.layout.specs.Layout.{layoutOf}
 use Rattle.tables.specs.Examples.{SceneS}
 
 pub scene-S : SceneS
-unfolding layoutOf encoded stored wordAt imageRuns dataRuns superRuns deviceRuns
+unfolding layoutOf encoded stored wordAt upperRuns leafRuns
 scene-S =
     record {
       device-table = refl;

@@ -1,19 +1,23 @@
 -- The word at an index of a table, from the laws of the arena by table.
-use Prim.Native.Nat.{ℕ, _+_, _-_, _*_, _≤_, _<_}
+use Prim.Native.Nat.{ℕ, suc, _+_, _-_, _*_, _≤_, _<_}
 use mathlib.Core.Bool.{Bool, true, false, _&&_}
-use mathlib.Core.List.{List}
+use mathlib.Core.List.{List, map}
 use mathlib.Core.Path.{_≡_, refl, sym, ap, _∙_}
+use native.Mathlib.Numerals.{add-one}
 use native.Mathlib.Omega.{arith}
 use lib.Dec.{eqb}
-use borrow.Author.Tests.{eq-eqb, ne-eqb}
-use Rattle.arena.proofs.At.{l1At, imageAt, dataAt, at-1, at-2, at-3, at-4, at-5, at-6}
+use lib.ListN.{length, getD, drop, drop-of-length-le}
+use lib.Seq.{drop-cons}
+use Rattle.arena.proofs.At.{noArea, imageAt, dataAt, named-next, at-areas, at-2, at-3, at-4, at-5, at-6}
 use Rattle.arena.proofs.Runs.{before, past, inside}
-use Rattle.arena.specs.Encoded.{Run, tableOf, indexOf, wordAt, pageAt, pageRun, superRun, deviceRun, target}
+use Rattle.arena.specs.Encoded.{Run, tableOf, indexOf, wordAt, stored, pageAt, pageRun, superRun, deviceRun, areaRun, target}
 use Rattle.arena.specs.Word.{tableTo}
+use Rattle.fields.specs.Named.{pick}
+use Rattle.layout.specs.Area.{areasOf, areaHas}
 use Rattle.layout.specs.Size.{entries}
-use Rattle.layout.specs.Window.{imageWindow, deviceWindow, l1Slot, slot}
+use Rattle.layout.specs.Window.{deviceWindow}
+use Rattle.layout.specs.declared.Area.{Area}
 use Rattle.layout.specs.declared.Layout.{Layout}
-use Rattle.layout.specs.declared.Window.{Window}
 
 -- word j of the table with k tables before it
 module _ (k j : ℕ) (h : j < entries) where
@@ -38,8 +42,8 @@ module _ (j : ℕ) (h : j < entries) (k : ℕ) (r : Run) (t : r .table ≡ 1 + k
       ∙ ap (λ (n : ℕ). r .word (n - r .from)) e
 
 module _ (l : Layout) (base sup : List ℕ) (j : ℕ) (h : j < entries) where
-  pub in-1 : target l base sup j ≡ l1At l j
-  in-1 = at-1 l base sup j (omega (arith, h)) ∙ ap (l1At l) (omega (arith, h))
+  pub in-1 : target l base sup j ≡ stored (map areaRun (areasOf l)) j 0
+  in-1 = at-areas l base sup j (omega (arith, h))
 
   pub in-2 : target l base sup (entries + j) ≡ imageAt l j
   in-2 = at-2 l base sup (entries + j) (omega (arith, h)) ∙ ap (imageAt l) (omega (arith, h))
@@ -57,34 +61,25 @@ module _ (l : Layout) (base sup : List ℕ) (j : ℕ) (h : j < entries) where
   pub in-5 : target l base sup (4 * entries + j) ≡ wordAt (superRun l sup) (4 * entries + j)
   in-5 = at-5 l base sup (4 * entries + j) (omega (arith, h))
 
-  pub in-6 : target l base sup (5 * entries + j) ≡ wordAt (deviceRun l) (5 * entries + j)
+  pub in-6 : target l base sup (5 * entries + j) ≡ wordAt (deviceRun 6 (deviceWindow l)) (5 * entries + j)
   in-6 = at-6 l base sup (5 * entries + j) (omega (arith, h))
 
--- whose level 1 word stands at an index
-module _ (l : Layout) (j : ℕ) where
-  abbrev there : Bool
-  there = deviceWindow l .present
+-- level 1 words of the areas from a place on: that of the one there, over the word so far
+module _ (xs : List Area) (k j word : ℕ) where
+  pub area-next :
+      j < entries →
+      k < length xs →
+      stored (map areaRun (drop k xs)) j word
+      ≡ stored (map areaRun (drop (k + 1) xs)) j (pick (areaHas (getD xs k noArea) j) (tableTo (getD xs k noArea .table)) word)
+  area-next b h =
+      let at : indexOf j ≡ j = omega (arith, b) in
+      rw (add-one, drop-cons xs k noArea h)
+      (named-next (getD xs k noArea) (drop (suc k) xs) j word (omega (arith, b))
+      ∙ ap (λ (n : ℕ). stored (map areaRun (drop (suc k) xs)) j (pick (areaHas (getD xs k noArea) n) (tableTo (getD xs k noArea .table)) word)) at)
 
-  abbrev image : Window
-  image = imageWindow (l .«guest_image_pa»)
-
-  module _ (d : (there && eqb (l1Slot (l .«device_base»)) j) ≡ false) where
-    pub of-super : l1Slot (l .«sup_ipa_base») ≡ j → l1At l j ≡ tableTo (l .«l2_sup_pa»)
-    of-super e = rw (d, eq-eqb _ _ e)
-
-    module _ (s : l1Slot (l .«sup_ipa_base») ≡ j → ⊥) where
-      pub of-data : l1Slot (l .«data_ipa_base») ≡ j → l1At l j ≡ tableTo (l .«l2_data_pa»)
-      of-data e = rw (d, ne-eqb _ _ s, eq-eqb _ _ e)
-
-      module _ (p : l1Slot (l .«data_ipa_base») ≡ j → ⊥) where
-        pub of-image : image .present ≡ true → eqb (slot image) j ≡ true → l1At l j ≡ tableTo (l .«l2_code_pa»)
-        of-image i e = rw (d, ne-eqb _ _ s, ne-eqb _ _ p, i, e)
-
-        pub of-none : (image .present && eqb (slot image) j) ≡ false → l1At l j ≡ 0
-        of-none i = rw (d, ne-eqb _ _ s, ne-eqb _ _ p, i)
-
-  pub of-device : there ≡ true → eqb (l1Slot (l .«device_base»)) j ≡ true → l1At l j ≡ tableTo (l .«l2_dev_pa»)
-  of-device d e = rw (d, e)
+  pub area-end : length xs ≤ k → stored (map areaRun (drop k xs)) j word ≡ word
+  unfolding stored
+  area-end h = rw (drop-of-length-le xs h)
 
 -- a window is absent, or stands elsewhere
 pub not-there : (b : Bool) (n j : ℕ) → b ≡ false → (b && eqb n j) ≡ false

@@ -1,9 +1,11 @@
 // The word that encoding into zeros leaves at a place of the arena: what an update stores.
+use layout::Area;
 use layout::Layout;
+use layout::Window;
 ghost use Prim.Native.Nat.{ℕ, _+_, _*_, _<_};
-ghost use mathlib.Core.List.{List};
+ghost use mathlib.Core.List.{List, map};
 ghost use mathlib.Core.Path.{_≡_};
-ghost use Rattle.arena.specs.Encoded.{target};
+ghost use Rattle.arena.specs.Encoded.{wordAt, stored, deviceRun, areaRun, target};
 ghost use Rattle.layout.specs.Size.{entries};
 
 pub fn target_word(base: &[u8], sup: &[u8], l: Layout, i: usize) -> u64
@@ -16,33 +18,32 @@ pub fn target_word(base: &[u8], sup: &[u8], l: Layout, i: usize) -> u64
         2 => data_word(l, j),
         3 => arena::page_word(l.data_pa_base, j as u32, lent::entry_at(base, j)),
         4 => super_word(sup, l, j),
-        5 => device_word(l, j),
+        5 => device_word(l.device_window(), j),
         _ => 0,
     }
 }
 
-// Of table 1. Where windows share a slot, which row 11 refuses, the last one's word stands.
+// Of table 1.
 fn l1_word(l: Layout, j: usize) -> u64
     requires { ⌜ j < entries ⌝ }
     ensures { λ r. ⌜ ((base sup : List ℕ) → r ≡ target l base sup j) ⌝ }
 {
-    let slot = j as u64;
-    let device = l.device_window();
-    if device.present && device.l1_index() == slot {
-        return arena::table_word(l.l2_dev_pa);
+    last_named(l.areas(), j)
+}
+
+// Where areas share a slot, which row 11 refuses, the last one's word stands.
+fn last_named(areas: [Area; Layout::WINDOWS], j: usize) -> u64
+    requires { ⌜ j < entries ⌝ }
+    ensures { λ r. ⌜ r ≡ stored (map areaRun areas) j 0 ⌝ }
+{
+    let mut word = 0;
+    for i in 0..Layout::WINDOWS {
+        let a = areas[i];
+        if a.has(j as u64) {
+            word = arena::table_word(a.table);
+        }
     }
-    if Layout::l1_index(l.sup_ipa_base) == slot {
-        return arena::table_word(l.l2_sup_pa);
-    }
-    if Layout::l1_index(l.data_ipa_base) == slot {
-        return arena::table_word(l.l2_data_pa);
-    }
-    let image_pa = l.guest_image_pa;
-    let image = image_pa.window();
-    if image.present && image.l1_index() == slot {
-        return arena::table_word(l.l2_code_pa);
-    }
-    0
+    word
 }
 
 // Of table 2.
@@ -90,19 +91,19 @@ fn super_word(sup: &[u8], l: Layout, j: usize) -> u64
     )
 }
 
-// Of table 6: the device's block at this slot.
-fn device_word(l: Layout, j: usize) -> u64
+// Of a device's table, which has k tables before it: the block at this slot.
+fn device_word(w: Window, j: usize) -> u64
     requires { ⌜ j < entries ⌝ }
-    ensures { λ r. ⌜ ((base sup : List ℕ) → r ≡ target l base sup (5 * entries + j)) ⌝ }
+    ensures { λ r. ⌜ ((k : ℕ) → r ≡ wordAt (deviceRun (1 + k) w) (k * entries + j)) ⌝ }
 {
-    let from = Layout::l2_index(l.device_base) as usize;
+    let from = Layout::l2_index(w.ipa) as usize;
     if j < from {
         return 0;
     }
     let m = j - from;
     // A device of no length has no block.
-    if l.device_len / Layout::BLOCK_SIZE <= m as u64 {
+    if w.span / Layout::BLOCK_SIZE <= m as u64 {
         return 0;
     }
-    arena::device_word(l.device_base, m as u32)
+    arena::device_word(w.ipa, m as u32)
 }

@@ -4,7 +4,7 @@ use mathlib.Core.Bool.{false}
 use mathlib.Core.List.{List, [], _∷_}
 use mathlib.Core.Path.{_≡_, sym, ap, ap₂, fun-ext, _∙_}
 use lib.ListN.{getD}
-use Rattle.arena.specs.Encoded.{pageAt, superAt, dataRuns, superRuns, encoded, target}
+use Rattle.arena.specs.Encoded.{pageAt, superAt, leafRuns, encoded, target}
 use Rattle.arena.specs.Word.{leafFor, pageTo, blockTo}
 use Rattle.filling.specs.Filling.{Filling}
 use Rattle.layout.specs.Size.{page, block}
@@ -40,7 +40,7 @@ module _ (l : Layout) (base base′ sup sup′ : List ℕ) (b : Same base base�
   supers = fun-ext (λ p. ap (λ e. leafFor e (blockTo (l .«sup_pa_base» + p * block) (l .«sup_wx_exempt»))) (u p))
 
   pub same-target : (i : ℕ) → target l base sup i ≡ target l base′ sup′ i
-  unfolding encoded dataRuns superRuns
+  unfolding encoded leafRuns
   same-target i = rw (pages, supers)
 
   pub same-granted : (x : ℕ) → granted l base sup x ≡ granted l base′ sup′ x

@@ -8,7 +8,7 @@ use lib.Dec.{eqb}
 use lib.ListN.{getD, set, length-set}
 use lib.Seq.{getD-set-same, getD-set-other}
 use borrow.Author.Tests.{eqb-true, eqb-false}
-use Rattle.arena.specs.Encoded.{wordAt, stored, imageRuns, dataRuns, superRuns, deviceRuns, encoded, target}
+use Rattle.arena.specs.Encoded.{wordAt, stored, upperRuns, leafRuns, encoded, target}
 use Rattle.decode.specs.Decoded.{decodedPage, decodedBlock, decodedTable, decodedDevice}
 use Rattle.layout.specs.Layout.{layoutOf}
 use Rattle.layout.specs.Size.{entries, arenaLength}
@@ -118,7 +118,7 @@ unfolding layoutOf first flatMap eachFrom pairs row2 row3 row4 row5 row6 row7 ro
 guarding-S = refl
 
 pub scene-S : SceneS
-unfolding layoutOf encoded stored wordAt imageRuns dataRuns superRuns deviceRuns
+unfolding layoutOf encoded stored wordAt upperRuns leafRuns
 scene-S arena e =
     let by : (j d : ℕ) → j < entries → LetsBy arena baseS supS (layoutOf sceneS) j d =
     λ j d h. letting-by arena baseS supS (layoutOf sceneS) j d guarding-S e h in

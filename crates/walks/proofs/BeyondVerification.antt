@@ -1,6 +1,6 @@
 -- The walks of a changed S, by computing.
 use mathlib.Core.Path.{refl}
-use Rattle.arena.specs.Encoded.{encoded, stored, wordAt, imageRuns, dataRuns, superRuns, deviceRuns}
+use Rattle.arena.specs.Encoded.{encoded, stored, wordAt, upperRuns, leafRuns}
 use Rattle.layout.specs.Layout.{layoutOf}
 use Rattle.walk.specs.Descent.{fetchFrom, descend}
 use Rattle.walk.specs.Walk.{walkOf}
@@ -8,7 +8,7 @@ use Rattle.window_reach.specs.Granted.{grantedBy}
 use Rattle.walks.specs.BeyondVerification.{BeyondVerification}
 
 pub beyond-verification : BeyondVerification
-unfolding layoutOf encoded stored wordAt imageRuns dataRuns superRuns deviceRuns fetchFrom descend walkOf grantedBy
+unfolding layoutOf encoded stored wordAt upperRuns leafRuns fetchFrom descend walkOf grantedBy
 beyond-verification =
     record {
       table-word = refl;

@@ -1,17 +1,17 @@
--- `encode_super` meets its contract: a word in table 1, then the supers, of which none is mapped at or past sup_frames.
+-- `encode_super` meets its contract: the supers, of which none is mapped at or past sup_frames.
 use Prim.Native.Nat.{_*_, ℕ, _+_, _<_, _≤_}
 use mathlib.Core.Bool.{Bool, true, false}
-use mathlib.Core.List.{List, [], _∷_}
-use mathlib.Core.Path.{_≡_, ap, _∙_, refl}
+use mathlib.Core.List.{List}
+use mathlib.Core.Path.{_≡_, ap, refl}
 use native.Mathlib.Omega.{arith}
 use lib.Dec.{eqb}
 use lib.ListN.{List·getD-eq-default, length, getD}
 use borrow.Author.Needs.{needs}
 use borrow.Author.Tests.{eqb-true, eqb-false}
 use denote.Ref.{now}
-use Rattle.arena.proofs.Over.{over-placed, over-from, over-run, over-append}
+use Rattle.arena.proofs.Over.{over-from, over-run}
 use Rattle.arena.proofs.Runs.{resized}
-use Rattle.arena.specs.Encoded.{superAt, superRuns}
+use Rattle.arena.specs.Encoded.{superAt}
 use Rattle.arena.specs.Word.{leafFor, blockTo}
 use Rattle.layout.specs.Size.{entries, block}
 use Rattle.layout.specs.Window.{l2Slot}
@@ -38,27 +38,17 @@ module _ (l : Layout) (sup : List ℕ) where
       go true e = unmapped p (eqb-true _ _ e)
       go false e = let k = fit .backed p hi (eqb-false _ _ e) in absurd (omega (arith, lo, k))
 
-l1-index-requires : tie.Need-l1-index-requires
-l1-index-requires c κs = search needs
-
-table-word-requires : tie.Need-table-word-requires
-table-word-requires c κs = search needs
-
-put-requires : tie.Need-put-requires
-put-requires c κs = search needs
-
 l2-index-requires : tie.Need-l2-index-requires
 l2-index-requires c κs = search needs
 
 put-supers-requires : tie.Need-put-supers-requires
 put-supers-requires c κs =
     let i = c .before in
-    let v = i .before .before .before in
-    let s = v .before .before .before .before .before .before in
+    let s = i .before .before .before in
     let fit = s .pre .1 in
     let from = i .l2-index .ensures in
     let slot : i .l2-index .result < entries = omega (arith, from) in (
-      v .put .ensures .long ∙ s .pre .0,
+      s .pre .0,
       (fit .short, (slot, λ p h some. let k = fit .slots p h some in omega (arith, from, k))),
     )
 
@@ -66,31 +56,18 @@ same-length : tie.Need-same-length
 same-length c = search needs
 
 returns : tie.Need-returns
-unfolding superRuns
 returns c =
     let z = c .before .before in
     let i = z .before .before in
-    let v = i .before .before .before in
-    let at = v .before .before .before in
-    let s = at .before .before .before in
+    let s = i .before .before .before in
     let l = s .args .l in
     let sup = now (s .args .sup) in
     let w = superAt (l .«sup_pa_base») (l .«sup_wx_exempt») sup in
-    let first = over-placed 1 _ _ _ _ _ _ (at .l1-index .ensures) (v .before .table-word .ensures) (v .put .ensures) in
     let placed = over-from 5 _ (l2Slot (l .«sup_ipa_base»)) _ w _ _ (i .l2-index .ensures) (z .put-supers .ensures) in
     let counted =
     resized 5 (l2Slot (l .«sup_ipa_base»)) (length sup) (l .«sup_frames») w (λ p lo hi. past-map l sup p lo)
     (unbacked l sup (s .pre .1)) in
-    over-append (_ ∷ []) (_ ∷ []) _ _ _ first (over-run _ _ _ _ counted placed)
+    over-run _ _ _ _ counted placed
 
 pub encode-super-spec : {M : Type 1} → statement M
-encode-super-spec =
-    tie.close
-    (tie.spec
-    l1-index-requires
-    table-word-requires
-    put-requires
-    l2-index-requires
-    put-supers-requires
-    same-length
-    returns)
+encode-super-spec = tie.close (tie.spec l2-index-requires put-supers-requires same-length returns)

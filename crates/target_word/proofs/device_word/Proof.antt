@@ -1,10 +1,12 @@
 -- `device_word` meets its contract: before the window's slot none, past its length none, else the block's.
-use Prim.Native.Nat.{ℕ, _-_}
+use Prim.Native.Nat.{ℕ, _+_, _-_, _/_, _≤_, _<_}
 use mathlib.Core.Path.{sym, ap, _∙_, refl}
 use native.Mathlib.Omega.{arith}
 use borrow.Author.Needs.{needs}
 use Rattle.arena.specs.Encoded.{deviceAt, deviceRun}
-use Rattle.target_word.proofs.Place.{in-6, run-before, run-past, run-inside}
+use Rattle.layout.specs.Size.{block}
+use Rattle.layout.specs.Window.{l2Slot}
+use Rattle.target_word.proofs.Place.{run-before, run-past, run-inside}
 use Rattle.target_word.proofs.device_word.Statement.{statement}
 use Rattle.target_word.proofs.device_word.Tie as tie
 
@@ -16,9 +18,8 @@ returns c =
     let v = c .before in
     let s = v .before in
     let from = v .l2-index .ensures in
-    λ base sup.
-    sym (in-6 (s .args .l) base sup (s .args .j) (s .pre)
-    ∙ run-before (s .args .j) (s .pre) 5 (deviceRun (s .args .l)) refl (omega (arith, from, c .if1 .taken)))
+    λ k.
+    sym (run-before (s .args .j) (s .pre) k (deviceRun (1 + k) (s .args .w)) refl (omega (arith, from, c .if1 .taken)))
 
 returns-2 : tie.Need-returns-2
 returns-2 c =
@@ -26,9 +27,8 @@ returns-2 c =
     let v = e .before in
     let s = v .before in
     let from = v .l2-index .ensures in
-    λ base sup.
-    sym (in-6 (s .args .l) base sup (s .args .j) (s .pre)
-    ∙ run-past (s .args .j) (s .pre) 5 (deviceRun (s .args .l)) refl (omega (arith, from, e .if1 .left, c .if2 .taken)))
+    λ k.
+    sym (run-past (s .args .j) (s .pre) k (deviceRun (1 + k) (s .args .w)) refl (omega (arith, from, e .if1 .left, c .if2 .taken)))
 
 cast-device-word : tie.Need-cast-device-word
 cast-device-word c = search needs
@@ -42,13 +42,14 @@ returns-3 c =
     let e = last .before .before in
     let v = e .before in
     let s = v .before in
-    let l = s .args .l in
+    let w = s .args .w in
     let from = v .l2-index .ensures in
-    λ base sup.
+    let lo : l2Slot (w .ipa) ≤ s .args .j = omega (arith, from, e .if1 .left) in
+    let hi : s .args .j < l2Slot (w .ipa) + w .span / block = omega (arith, from, e .if1 .left, last .if2 .left) in
+    λ k.
     c .device-word .ensures
-    ∙ ap (λ (n : ℕ). deviceAt (l .«device_base») (s .args .j - n)) from
-    ∙ sym (in-6 l base sup (s .args .j) (s .pre)
-    ∙ run-inside (s .args .j) (s .pre) 5 (deviceRun l) refl (omega (arith, from, e .if1 .left)) (omega (arith, from, e .if1 .left, last .if2 .left)))
+    ∙ ap (λ (n : ℕ). deviceAt (w .ipa) (s .args .j - n)) from
+    ∙ sym (run-inside (s .args .j) (s .pre) k (deviceRun (1 + k) w) refl lo hi)
 
 pub device-word-spec : {M : Type 1} → statement M
 device-word-spec =

@@ -5,10 +5,11 @@ use native.Mathlib.Omega.{arith}
 use borrow.Author.Needs.{needs}
 use denote.Ref.{now}
 use Rattle.arena.proofs.At.{at-none}
-use Rattle.arena.specs.Encoded.{target}
+use Rattle.arena.specs.Encoded.{wordAt, deviceRun, target}
 use Rattle.arena.specs.Word.{leafFor, pageTo}
 use Rattle.layout.specs.Size.{entries, page}
-use Rattle.target_word.proofs.Place.{in-4}
+use Rattle.layout.specs.declared.Window.{Window}
+use Rattle.target_word.proofs.Place.{in-4, in-6}
 use Rattle.target_word.proofs.target_word.Statement.{statement}
 use Rattle.target_word.proofs.target_word.Tie as tie
 
@@ -32,6 +33,9 @@ page-word-requires c κs = search needs
 
 super-word-requires : tie.Need-super-word-requires
 super-word-requires c κs = search needs
+
+device-window-requires : tie.Need-device-window-requires
+device-window-requires c κs = search needs
 
 device-word-requires : tie.Need-device-word-requires
 device-word-requires c κs = search needs
@@ -71,9 +75,14 @@ returns-5 c =
 
 returns-6 : tie.Need-returns-6
 returns-6 c =
-    let a = c .before .before .before .before .args in
-    let key = c .before .match .keys6 in
-    c .device-word .ensures _ _ ∙ ap (target (a .l) (now (a .base)) (now (a .sup))) (omega (arith, key))
+    let v = c .before in
+    let a = v .before .before .before .before .args in
+    let key = v .before .match .keys6 in
+    let j = a .i % entries in
+    c .device-word .ensures 5
+    ∙ ap (λ (w : Window). wordAt (deviceRun 6 w) (5 * entries + j)) (v .device-window .ensures)
+    ∙ sym (in-6 (a .l) (now (a .base)) (now (a .sup)) j (omega arith))
+    ∙ ap (target (a .l) (now (a .base)) (now (a .sup))) (omega (arith, key))
 
 returns-7 : tie.Need-returns-7
 returns-7 c =
@@ -92,6 +101,7 @@ target-word-spec =
     entry-at-requires
     page-word-requires
     super-word-requires
+    device-window-requires
     device-word-requires
     returns
     returns-2
