@@ -169,31 +169,41 @@ module _ (l : Layout) (base sup : List ℕ) (i : ℕ) where
   pub at-1 : tableOf i ≡ 1 → target l base sup i ≡ l1At l (indexOf i)
   at-1 t = at-areas t ∙ named-last (areasOf l) i 0 t
 
-  pub at-2 : tableOf i ≡ 2 → target l base sup i ≡ imageAt l (indexOf i)
+  -- tables 2 and on have one run each
+
+  pub run-2 : tableOf i ≡ 2 → target l base sup i ≡ wordAt (imageRun l) i
   unfolding upperRuns leafRuns
+  run-2 = at-run 2 (imageRun l) refl
+
+  pub run-3 : tableOf i ≡ 3 → target l base sup i ≡ wordAt (pageTableRun l) i
+  unfolding upperRuns leafRuns
+  run-3 = at-run 3 (pageTableRun l) refl
+
+  pub run-4 : tableOf i ≡ 4 → target l base sup i ≡ wordAt (pageRun l base) i
+  unfolding upperRuns leafRuns
+  run-4 = at-run 4 (pageRun l base) refl
+
+  pub run-5 : tableOf i ≡ 5 → target l base sup i ≡ wordAt (superRun l sup) i
+  unfolding upperRuns leafRuns
+  run-5 = at-run 5 (superRun l sup) refl
+
+  pub run-6 : tableOf i ≡ 6 → target l base sup i ≡ wordAt (deviceRun 6 (deviceWindow l)) i
+  unfolding upperRuns leafRuns
+  run-6 = at-run 6 (deviceRun 6 (deviceWindow l)) refl
+
+  -- in tables 2 and 3 one word
+
+  pub at-2 : tableOf i ≡ 2 → target l base sup i ≡ imageAt l (indexOf i)
   at-2 t =
-      at-run 2 (imageRun l) refl t
+      run-2 t
       ∙ sym (overwrite-zero (wordAt (imageRun l) i))
       ∙ single-if (image l .present) 2 (l2Slot (image l .ipa)) (imageTo (image l .pa)) i 0 t (image-some (image l .pa))
 
   pub at-3 : tableOf i ≡ 3 → target l base sup i ≡ dataAt l (indexOf i)
-  unfolding upperRuns leafRuns
   at-3 t =
-      at-run 3 (pageTableRun l) refl t
+      run-3 t
       ∙ sym (overwrite-zero (wordAt (pageTableRun l) i))
       ∙ single 3 (l2Slot (l .«data_ipa_base»)) (tableTo (l .«l3_data_pa»)) i 0 t (names-some (l .«l3_data_pa»))
-
-  pub at-4 : tableOf i ≡ 4 → target l base sup i ≡ wordAt (pageRun l base) i
-  unfolding upperRuns leafRuns
-  at-4 = at-run 4 (pageRun l base) refl
-
-  pub at-5 : tableOf i ≡ 5 → target l base sup i ≡ wordAt (superRun l sup) i
-  unfolding upperRuns leafRuns
-  at-5 = at-run 5 (superRun l sup) refl
-
-  pub at-6 : tableOf i ≡ 6 → target l base sup i ≡ wordAt (deviceRun 6 (deviceWindow l)) i
-  unfolding upperRuns leafRuns
-  at-6 = at-run 6 (deviceRun 6 (deviceWindow l)) refl
 
   -- past the last table
   pub at-none : tableCount < tableOf i → target l base sup i ≡ 0

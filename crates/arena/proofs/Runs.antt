@@ -1,5 +1,5 @@
 -- Where a run has a word, and how runs join.
-use Prim.Native.Nat.{ℕ, _+_, _-_, _≤_, _<_}
+use Prim.Native.Nat.{ℕ, _+_, _-_, _*_, _≤_, _<_}
 use mathlib.Core.Bool.{Bool, true, false, _&&_, false≢true}
 use mathlib.Core.List.{List, [], _∷_, _++_}
 use mathlib.Core.Path.{_≡_, refl, sym, ap, _∙_}
@@ -7,6 +7,7 @@ use native.Mathlib.Omega.{arith}
 use lib.Dec.{eqb, leb, ltb}
 use borrow.Author.Tests.{ltb-true, ltb-false, leb-true, leb-false, eqb-true, lt-ltb, le-ltb, le-leb, lt-leb, eq-eqb}
 use Rattle.fields.specs.Named.{pick}
+use Rattle.layout.specs.Size.{entries}
 use Rattle.arena.specs.Encoded.{Run, run, one, tableOf, indexOf, wordAt, overwrite, stored}
 
 second-false : (a b c : Bool) → b ≡ false → (a && b && c) ≡ false
@@ -36,6 +37,28 @@ module _ (t f n : ℕ) (word : ℕ → ℕ) (i : ℕ) where
   pub inside : tableOf i ≡ t → f ≤ indexOf i → indexOf i < f + n → wordAt (run t f n word) i ≡ word (indexOf i - f)
   unfolding wordAt
   inside e lo hi = rw (eq-eqb _ _ e, le-leb _ _ lo, lt-ltb _ _ hi)
+
+-- word j of the table with k tables before it
+module _ (k j : ℕ) (h : j < entries) where
+  pub table-of : tableOf (k * entries + j) ≡ 1 + k
+  table-of = omega (arith, h)
+
+  pub index-of : indexOf (k * entries + j) ≡ j
+  index-of = omega (arith, h)
+
+-- a run's word at an index of its table
+module _ (j : ℕ) (h : j < entries) (k : ℕ) (r : Run) (t : r .table ≡ 1 + k) where
+  pub run-before : j < r .from → wordAt r (k * entries + j) ≡ 0
+  run-before b = before (r .table) (r .from) (r .count) (r .word) (k * entries + j) (omega (arith, b, index-of k j h))
+
+  pub run-past : r .from + r .count ≤ j → wordAt r (k * entries + j) ≡ 0
+  run-past b = past (r .table) (r .from) (r .count) (r .word) (k * entries + j) (omega (arith, b, index-of k j h))
+
+  pub run-inside : r .from ≤ j → j < r .from + r .count → wordAt r (k * entries + j) ≡ r .word (j - r .from)
+  run-inside lo hi =
+      let e = index-of k j h in
+      inside (r .table) (r .from) (r .count) (r .word) (k * entries + j) (table-of k j h ∙ sym t) (omega (arith, lo, e)) (omega (arith, hi, e))
+      ∙ ap (λ (n : ℕ). r .word (n - r .from)) e
 
 -- a word after a run makes it longer
 module _ (t f n : ℕ) (word : ℕ → ℕ) (i old : ℕ) where

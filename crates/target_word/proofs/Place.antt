@@ -2,15 +2,15 @@
 use Prim.Native.Nat.{ℕ, suc, _+_, _-_, _*_, _≤_, _<_}
 use mathlib.Core.Bool.{Bool, true, false, _&&_}
 use mathlib.Core.List.{List, map}
-use mathlib.Core.Path.{_≡_, refl, sym, ap, _∙_}
+use mathlib.Core.Path.{_≡_, refl, ap, _∙_}
 use native.Mathlib.Numerals.{add-one}
 use native.Mathlib.Omega.{arith}
 use lib.Dec.{eqb}
 use lib.ListN.{length, getD, drop, drop-of-length-le}
 use lib.Seq.{drop-cons}
-use Rattle.arena.proofs.At.{noArea, imageAt, dataAt, named-next, at-areas, at-2, at-3, at-4, at-5, at-6}
-use Rattle.arena.proofs.Runs.{before, past, inside}
-use Rattle.arena.specs.Encoded.{Run, tableOf, indexOf, wordAt, stored, pageAt, pageRun, superRun, deviceRun, areaRun, target}
+use Rattle.arena.proofs.At.{noArea, imageAt, dataAt, named-next, at-areas, at-2, at-3, run-4, run-5, run-6}
+use Rattle.arena.proofs.Runs.{run-inside}
+use Rattle.arena.specs.Encoded.{indexOf, wordAt, stored, pageAt, pageRun, superRun, deviceRun, areaRun, target}
 use Rattle.arena.specs.Word.{tableTo}
 use Rattle.fields.specs.Named.{pick}
 use Rattle.layout.specs.Area.{areasOf, areaHas}
@@ -18,28 +18,6 @@ use Rattle.layout.specs.Size.{entries}
 use Rattle.layout.specs.Window.{deviceWindow}
 use Rattle.layout.specs.declared.Area.{Area}
 use Rattle.layout.specs.declared.Layout.{Layout}
-
--- word j of the table with k tables before it
-module _ (k j : ℕ) (h : j < entries) where
-  pub table-of : tableOf (k * entries + j) ≡ 1 + k
-  table-of = omega (arith, h)
-
-  pub index-of : indexOf (k * entries + j) ≡ j
-  index-of = omega (arith, h)
-
--- a run's word at an index of its table
-module _ (j : ℕ) (h : j < entries) (k : ℕ) (r : Run) (t : r .table ≡ 1 + k) where
-  pub run-before : j < r .from → wordAt r (k * entries + j) ≡ 0
-  run-before b = before (r .table) (r .from) (r .count) (r .word) (k * entries + j) (omega (arith, b, index-of k j h))
-
-  pub run-past : r .from + r .count ≤ j → wordAt r (k * entries + j) ≡ 0
-  run-past b = past (r .table) (r .from) (r .count) (r .word) (k * entries + j) (omega (arith, b, index-of k j h))
-
-  pub run-inside : r .from ≤ j → j < r .from + r .count → wordAt r (k * entries + j) ≡ r .word (j - r .from)
-  run-inside lo hi =
-      let e = index-of k j h in
-      inside (r .table) (r .from) (r .count) (r .word) (k * entries + j) (table-of k j h ∙ sym t) (omega (arith, lo, e)) (omega (arith, hi, e))
-      ∙ ap (λ (n : ℕ). r .word (n - r .from)) e
 
 module _ (l : Layout) (base sup : List ℕ) (j : ℕ) (h : j < entries) where
   pub in-1 : target l base sup j ≡ stored (map areaRun (areasOf l)) j 0
@@ -54,15 +32,15 @@ module _ (l : Layout) (base sup : List ℕ) (j : ℕ) (h : j < entries) where
   pub in-4 : target l base sup (3 * entries + j) ≡ pageAt (l .«data_pa_base») base j
   in-4 =
       let first : j - 0 ≡ j = omega arith in
-      at-4 l base sup (3 * entries + j) (omega (arith, h))
+      run-4 l base sup (3 * entries + j) (omega (arith, h))
       ∙ run-inside j h 3 (pageRun l base) refl (omega arith) (omega (arith, h))
       ∙ ap (pageAt (l .«data_pa_base») base) first
 
   pub in-5 : target l base sup (4 * entries + j) ≡ wordAt (superRun l sup) (4 * entries + j)
-  in-5 = at-5 l base sup (4 * entries + j) (omega (arith, h))
+  in-5 = run-5 l base sup (4 * entries + j) (omega (arith, h))
 
   pub in-6 : target l base sup (5 * entries + j) ≡ wordAt (deviceRun 6 (deviceWindow l)) (5 * entries + j)
-  in-6 = at-6 l base sup (5 * entries + j) (omega (arith, h))
+  in-6 = run-6 l base sup (5 * entries + j) (omega (arith, h))
 
 -- level 1 words of the areas from a place on: that of the one there, over the word so far
 module _ (xs : List Area) (k j word : ℕ) where

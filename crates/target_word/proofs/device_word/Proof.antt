@@ -3,10 +3,10 @@ use Prim.Native.Nat.{ℕ, _+_, _-_, _/_, _≤_, _<_}
 use mathlib.Core.Path.{sym, ap, _∙_, refl}
 use native.Mathlib.Omega.{arith}
 use borrow.Author.Needs.{needs}
+use Rattle.arena.proofs.Runs.{run-before, run-past, run-inside}
 use Rattle.arena.specs.Encoded.{deviceAt, deviceRun}
 use Rattle.layout.specs.Size.{block}
 use Rattle.layout.specs.Window.{l2Slot}
-use Rattle.target_word.proofs.Place.{run-before, run-past, run-inside}
 use Rattle.target_word.proofs.device_word.Statement.{statement}
 use Rattle.target_word.proofs.device_word.Tie as tie
 

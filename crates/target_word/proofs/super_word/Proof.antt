@@ -4,10 +4,11 @@ use mathlib.Core.Path.{sym, ap, _∙_, refl}
 use native.Mathlib.Omega.{arith}
 use borrow.Author.Needs.{needs}
 use denote.Ref.{now}
+use Rattle.arena.proofs.Runs.{run-before, run-past, run-inside}
 use Rattle.arena.specs.Encoded.{superAt, superRun}
 use Rattle.arena.specs.Word.{leafFor, blockTo}
 use Rattle.layout.specs.Size.{block}
-use Rattle.target_word.proofs.Place.{in-5, run-before, run-past, run-inside}
+use Rattle.target_word.proofs.Place.{in-5}
 use Rattle.target_word.proofs.super_word.Statement.{statement}
 use Rattle.target_word.proofs.super_word.Tie as tie
 
