@@ -4,6 +4,7 @@ pub mod Entries
 pub mod Fetched
 pub mod Leaves
 pub mod OutOfReach
+pub mod Parts
 pub mod Seen
 pub mod Slots
 pub mod Tabled

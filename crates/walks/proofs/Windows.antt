@@ -8,16 +8,18 @@ use lib.Dec.{leb, ltb}
 use lib.ListN.{getD}
 use borrow.Author.Tests.{leb-true, leb-false, ltb-true, ltb-false}
 use Rattle.accepted.specs.Accepted.{Within}
+use Rattle.arena.proofs.Runs.{run-before, run-past, run-inside}
+use Rattle.arena.specs.Encoded.{Run, wordAt}
 use Rattle.fields.specs.Named.{pick}
 use Rattle.layout.specs.Size.{entries, page, block, inputLimit}
 use Rattle.layout.specs.Window.{l1Slot, l2Slot, slot}
-use Rattle.reach.specs.declared.Reached.{Reached}
 use Rattle.reach.specs.declared.Reached.the-variants.{Nothing}
 use Rattle.walk.specs.Descent.{Words, index}
 use Rattle.window_reach.proofs.Contains.{Inside, inside, contained}
 use Rattle.window_reach.specs.Granted.{Region, contains, reachAt, byEntry, grantedIn}
 use Rattle.walks.proofs.Entries.{Entry, unmapped, mapped}
 use Rattle.walks.proofs.Leaves.{PageLeaf, BlockLeaf}
+use Rattle.walks.proofs.Parts.{In}
 use Rattle.walks.proofs.Seen.{Names-table, Finds, Seen, blank2, blank3, block2, page3}
 use Rattle.walks.proofs.Slots.{block-from, block-back, block-offset}
 
@@ -34,10 +36,6 @@ page-sum :
 page-sum pa first x span a b c d = omega arith
 
 module _ (tables : List ℕ) (words : Words) (x : ℕ) where
-  -- in this window, or nothing
-  abbrev pub In : Region → Reached
-  In r = pick (contains (r .window) x) (grantedIn r x) Nothing
-
   module _
       (limit : ℕ) (r : Region) (here : r .window .present ≡ true) (within : Within limit (r .window)) (pieces : r .piece ≡ block)
       (aligned : r .window .ipa % block ≡ 0)
@@ -47,14 +45,13 @@ module _ (tables : List ℕ) (words : Words) (x : ℕ) where
       (d t : ℕ)
       (at1 : Finds tables words x 2 (getD tables 0 0) d)
       (names : Names-table d t)
-      (word : ℕ → ℕ)
-      (before : l2Slot x < l2Slot (r .window .ipa) → Finds tables words x 1 t 0)
-      (past : l2Slot (r .window .ipa) + r .window .span / block ≤ l2Slot x → Finds tables words x 1 t 0)
-      (between :
-      l2Slot (r .window .ipa) ≤ l2Slot x →
-      l2Slot x < l2Slot (r .window .ipa) + r .window .span / block →
-      Finds tables words x 1 t (word (l2Slot x - l2Slot (r .window .ipa))))
-      (entry : (p : ℕ) → p < r .window .span / block → Entry BlockLeaf (word p) (r .window .pa + p * block) (r .exempt) (r .entry p))
+      (k : ℕ)
+      (u : Run)
+      (table : u .table ≡ 1 + k)
+      (starts : u .from ≡ l2Slot (r .window .ipa))
+      (counts : u .count ≡ r .window .span / block)
+      (reads : Finds tables words x 1 t (wordAt u (k * entries + l2Slot x)))
+      (entry : (p : ℕ) → p < r .window .span / block → Entry BlockLeaf (u .word p) (r .window .pa + p * block) (r .exempt) (r .entry p))
     where
       abbrev ipa : ℕ
       ipa = r .window .ipa
@@ -64,6 +61,23 @@ module _ (tables : List ℕ) (words : Words) (x : ℕ) where
 
       abbrev from : ℕ
       from = l2Slot ipa
+
+      abbrev word : ℕ → ℕ
+      word = u .word
+
+      -- the words of the window's run: none before it and past it
+
+      before : l2Slot x < from → Finds tables words x 1 t 0
+      before h out = reads out ∙ run-before (l2Slot x) (omega arith) k u table (omega (arith, h, starts))
+
+      past : from + r .window .span / block ≤ l2Slot x → Finds tables words x 1 t 0
+      past h out = reads out ∙ run-past (l2Slot x) (omega arith) k u table (omega (arith, h, starts, counts))
+
+      between : from ≤ l2Slot x → l2Slot x < from + r .window .span / block → Finds tables words x 1 t (word (l2Slot x - from))
+      between a b out =
+          reads out
+          ∙ run-inside (l2Slot x) (omega arith) k u table (omega (arith, a, starts)) (omega (arith, b, starts, counts))
+          ∙ ap (λ (n : ℕ). word (l2Slot x - n)) starts
 
       nothing : Finds tables words x 1 t 0 → Seen tables words x Nothing
       nothing f = blank2 d t at1 names f
@@ -102,7 +116,7 @@ module _ (tables : List ℕ) (words : Words) (x : ℕ) where
               let b = block-back ipa (r .window .span) x (within .below) (within .inside) aligned whole low same (leb-true _ _ p) (ltb-true _ _ q) in
               absurd (false≢true (sym e ∙ contained (r .window) x (record { there = here; from = b .0; before = b .1 })))
 
-      pub block-window : Seen tables words x (In r)
+      pub block-window : Seen tables words x (In x r)
       block-window = go (contains (r .window) x) refl
         where
           go : (b : Bool) → contains (r .window) x ≡ b → Seen tables words x (pick b (grantedIn r x) Nothing)
@@ -162,7 +176,7 @@ module _ (tables : List ℕ) (words : Words) (x : ℕ) where
               let b = block-back first (r .window .span) x (within .below) (within .inside) aligned multiple low same (omega (arith, q)) (omega (arith, q, whole)) in
               false≢true (sym f ∙ contained (r .window) x (record { there = here; from = b .0; before = b .1 }))
 
-      pub page-window : Seen tables words x (In r)
+      pub page-window : Seen tables words x (In x r)
       page-window = go (contains (r .window) x) refl
         where
           go : (b : Bool) → contains (r .window) x ≡ b → Seen tables words x (pick b (grantedIn r x) Nothing)

@@ -16,18 +16,28 @@ moved p t s h = go (ltb (t - p) s) refl
     go false e = let k = ltb-false (t - p) s e in sym (le-ltb t (p + s) (omega (arith, k, h)))
 
 returns : tie.Need-returns
-returns c = rw (not-true (c .before .before .args .w .present) (c .if1 .taken))
+returns c = rw (not-true (c .before .before .args .t .present) (c .if1 .taken))
 
 returns-2 : tie.Need-returns-2
 returns-2 c =
-    let e = c .before .before .before in rw (not-false (e .before .before .args .w .present) (e .if1 .left), lt-leb _ _ (c .if2 .taken))
+    let t = c .before .before in
+    let a = t .before .before .args in rw (not-false (a .t .present) (t .if1 .left), not-true (a .w .present) (c .if2 .taken))
 
 returns-3 : tie.Need-returns-3
 returns-3 c =
+    let w = c .before .before .before in
+    let t = w .before .before in
+    let a = t .before .before .args in
+    rw (not-false (a .t .present) (t .if1 .left), not-false (a .w .present) (w .if2 .left), lt-leb _ _ (c .if3 .taken))
+
+returns-4 : tie.Need-returns-4
+returns-4 c =
     let f = c .before .before .before in
-    let e = f .before .before .before in
-    let a = e .before .before .args in
-    rw (not-false (a .w .present) (e .if1 .left), le-leb _ _ (f .if2 .left)) (moved (a .w .pa) (a .t .pa) (a .w .span) (f .if2 .left))
+    let w = f .before .before .before in
+    let t = w .before .before in
+    let a = t .before .before .args in
+    rw (not-false (a .t .present) (t .if1 .left), not-false (a .w .present) (w .if2 .left), le-leb _ _ (f .if3 .left))
+    (moved (a .w .pa) (a .t .pa) (a .w .span) (f .if3 .left))
 
 pub lies-in-spec : {M : Type 1} → statement M
-lies-in-spec = tie.close (tie.spec returns returns-2 returns-3)
+lies-in-spec = tie.close (tie.spec returns returns-2 returns-3 returns-4)
