@@ -11,9 +11,9 @@ use Rattle.desc.specs.Descriptor.{descriptorType, blockType, tableType, pageTyp
 use Rattle.fields.specs.Bits.{bits}
 use Rattle.fields.specs.Named.{pick}
 use Rattle.layout.specs.Size.{entries, page, block, inputLimit}
-use Rattle.reach.specs.declared.Reached.the-variants.{Nothing}
 use Rattle.walk.specs.Descent.{Words, index, fetchFrom, endsAt, leads, descend}
 use Rattle.walk.specs.Walk.{joined, reading, walkOf}
+use Rattle.walk.specs.declared.Stop.the-variants.{Stopped}
 use Rattle.walk.specs.declared.Stop.{Stop}
 use Rattle.manual.specs.Agreement.{alike, among, ordinary, WalksAgree}
 use Rattle.manual.specs.Translation.{Access, Machine, Translated, fault, leaf, level1, level2, level3, translation, allowed}
@@ -145,6 +145,6 @@ walks-agree m l1 others ws all a x = go (ltb x inputLimit) refl
 
     go :
         (b : Bool) → ltb x inputLimit ≡ b →
-        pick b (level1 m (l1 ∷ others) ws a x l1) fault ≡ allowed a (pick b (reading x (descend (l1 ∷ others) ws 2 l1 x)) Nothing)
+        pick b (level1 m (l1 ∷ others) ws a x l1) fault ≡ allowed a (reading x (pick b (descend (l1 ∷ others) ws 2 l1 x) (Stopped 0)))
     go true e = agree-1 m (l1 ∷ others) a x ws all l1 first
     go false e = refl

@@ -102,7 +102,7 @@ module _ (tables : List ℕ) (ws : ℕ → Words) (whole : Words) (x : ℕ) wher
     where
       go :
           {a b : Stop} (low : Bool) → Ends a b →
-          Either (pick low (reading x a) Nothing) (pick low (reading x b) Nothing) Nothing
+          Either (reading x (pick low a (Stopped 0))) (reading x (pick low b (Stopped 0))) Nothing
       go true (inl e) = inl (ap (reading x) e)
       go true (inr e) = inr (ap (reading x) (e .1))
       go false e = inl refl
@@ -123,7 +123,7 @@ module _ (tables : List ℕ) (ws : ℕ → Words) (whole : Words) (x : ℕ) wher
   pub walk-same : EachRead (λ n. ws n ≡ whole) → walkOf tables ws x ≡ walkOf tables (λ n. whole) x
   unfolding walkOf
   walk-same e =
-      ap (λ (s : Stop). pick (ltb x inputLimit) (reading x s) Nothing) (descend-same 2 (getD tables 0 0) e)
+      ap (λ (s : Stop). reading x (pick (ltb x inputLimit) s (Stopped 0))) (descend-same 2 (getD tables 0 0) e)
 
 -- level 1 is read from the first table
 fetch-first : (outside l1 : ℕ) (others : List ℕ) (w : Words) (j : ℕ) → fetch outside (l1 ∷ others) w l1 j ≡ w (0 + j)
@@ -138,7 +138,7 @@ module _ (l1 : ℕ) (others : List ℕ) (ws : ℕ → Words) (x : ℕ) (zeros : 
   unfolding walkOf descend
   walk-zeros = rw (first-read 0) (go (ltb x inputLimit))
     where
-      go : (low : Bool) → pick low Nothing Nothing ≡ Nothing
+      go : (low : Bool) → reading x (pick low (Stopped 1) (Stopped 0)) ≡ Nothing
       go true = refl
       go false = refl
 

@@ -5,12 +5,11 @@ use mathlib.Core.List.{List}
 use mathlib.Core.Path.{_≡_, refl}
 use lib.Dec.{eqb}
 use borrow.Author.Tests.{eqb-true}
-use Rattle.decode.specs.Decoded.{decodedTable}
 use Rattle.decode.specs.declared.DecodedTable.{DecodedTable}
 use Rattle.decode.specs.declared.DecodedTable.the-variants.{At, Nothing}
 use Rattle.desc.specs.Descriptor.{descriptorType, blockType, pageType}
 use Rattle.fields.specs.Named.{pick}
-use Rattle.walk.specs.Descent.{Words, index, fetch, endsAt, leads, descend}
+use Rattle.walk.specs.Descent.{Words, index, fetch, endsAt, nextTable, leads, through}
 use Rattle.walk.specs.Packed.{packed, unpacked}
 use Rattle.walk.specs.declared.Stop.{Stop}
 use Rattle.walk.specs.declared.Stop.the-variants.{Leaf, Stopped}
@@ -32,13 +31,12 @@ end-back (suc zero) d = go (eqb (descriptorType d) blockType) refl
 end-back (suc (suc left)) d = refl
 
 by-table :
-    (left d : ℕ) (down : ℕ → Stop) → ((next : ℕ) → Back (down next)) → (t : DecodedTable) → Back (leads t down (endsAt (suc left) d))
+    (left d : ℕ) (down : ℕ → Stop) → ((next : ℕ) → Back (down next)) →
+    (t : DecodedTable) → Back (leads t down (endsAt (suc left) d))
 by-table left d down below (At next) = below next
 by-table left d down below Nothing = end-back (suc left) d
 
-pub back : (tables : List ℕ) (ws : ℕ → Words) (left named x : ℕ) → Back (descend tables ws left named x)
-unfolding descend
-back tables ws zero named x = end-back 0 (fetch 0 tables (ws 0) named (index 0 x))
-back tables ws (suc left) named x =
-    let d = fetch 0 tables (ws (suc left)) named (index (suc left) x) in
-    by-table left d (λ next. descend tables ws left next x) (λ next. back tables ws left next x) (decodedTable d)
+pub back : (tables : List ℕ) (ws : ℕ → Words) (left d x : ℕ) → Back (through tables ws left d x)
+back tables ws zero d x = end-back 0 d
+back tables ws (suc left) d x =
+    by-table left d _ (λ next. back tables ws left (fetch 0 tables (ws left) next (index left x)) x) (nextTable d)

@@ -44,14 +44,21 @@ endsAt zero d = pick (eqb (descriptorType d) pageType) (Leaf 3 d) (Stopped 3)
 endsAt (suc zero) d = pick (eqb (descriptorType d) blockType) (Leaf 2 d) (Stopped 2)
 endsAt (suc (suc left)) d = Stopped 1
 
--- a table word leads to the table that it names
+-- the table that an entry's word leads to
+abbrev pub nextTable : ℕ → DecodedTable
+nextTable d = decodedTable d
+
+-- on from the table that a word leads to; where there is none, the descent ends here
 abbrev pub leads : DecodedTable → (ℕ → Stop) → Stop → Stop
 leads (At named) down here = down named
 leads Nothing down here = here
 
--- from the table named, with so many levels left below its own: each read sees words of its own, and outside the arena zero
+-- from an entry's word, with so many levels left below it: each read sees words of its own, and outside the arena zero
+abbrev pub through : List ℕ → (ℕ → Words) → ℕ → ℕ → ℕ → Stop
+through tables ws zero d x = endsAt 0 d
+through tables ws (suc left) d x =
+    leads (nextTable d) (λ next. through tables ws left (fetch 0 tables (ws left) next (index left x)) x) (endsAt (suc left) d)
+
+-- from the table named, with so many levels left below its own
 unfoldable pub descend : List ℕ → (ℕ → Words) → ℕ → ℕ → ℕ → Stop
-descend tables ws zero named x = endsAt 0 (fetch 0 tables (ws 0) named (index 0 x))
-descend tables ws (suc left) named x =
-    let d = fetch 0 tables (ws (suc left)) named (index (suc left) x) in
-    leads (decodedTable d) (λ next. descend tables ws left next x) (endsAt (suc left) d)
+descend tables ws left named x = through tables ws left (fetch 0 tables (ws left) named (index left x)) x

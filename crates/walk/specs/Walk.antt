@@ -27,9 +27,12 @@ abbrev pub reading : ℕ → Stop → Reached
 reading x (Leaf level d) = pick (eqb level 3) (joined (x % page) (decodedPage d)) (joined (x % block) (decodedBlock d))
 reading x (Stopped level) = Nothing
 
--- it starts at the l1 address; an address of 2^39 or more reaches nothing
+-- where the walk stops: it starts at the l1 address; an address of 2^39 or more stops at level 0, as DDI 0487 has it
+abbrev pub stopOf : List ℕ → (ℕ → Words) → ℕ → Stop
+stopOf tables ws x = pick (ltb x inputLimit) (descend tables ws 2 (getD tables 0 0) x) (Stopped 0)
+
 unfoldable pub walkOf : List ℕ → (ℕ → Words) → ℕ → Reached
-walkOf tables ws x = pick (ltb x inputLimit) (reading x (descend tables ws 2 (getD tables 0 0) x)) Nothing
+walkOf tables ws x = reading x (stopOf tables ws x)
 
 -- a walk never refuses but by 1; each of its reads sees the arena as it is
 abbrev pub walkedFrom : List ℕ → List ℕ → ℕ → Told Reached

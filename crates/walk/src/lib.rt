@@ -8,13 +8,12 @@ use reach::Walked;
 use refusal::Verdict;
 ghost use Prim.Native.Nat.{_≤_, _<_};
 ghost use mathlib.Core.Path.{_≡_};
-ghost use lib.ListN.{length};
 ghost use Rattle.decode.specs.Decoded.{outputOf};
-ghost use Rattle.layout.specs.Size.{entries, block, outputLimit, tableCount, arenaLength};
+ghost use Rattle.layout.specs.Size.{entries, block, outputLimit};
 ghost use Rattle.reach.specs.Reach.{toldOf};
-ghost use Rattle.walk.specs.Descent.{index, wordsOf, fetch, descend, endsAt};
+ghost use Rattle.walk.specs.Descent.{index, wordsOf, fetch, endsAt, nextTable, through};
 ghost use Rattle.walk.specs.Packed.{packed, unpacked};
-ghost use Rattle.walk.specs.Walk.{joined, reading, walkOf, walkedFrom};
+ghost use Rattle.walk.specs.Walk.{joined, reading, stopOf, walkedFrom};
 
 // Where a descent ends: at a leaf word, or at a level where no word leads on.
 pub enum Stop {
@@ -22,46 +21,50 @@ pub enum Stop {
     Stopped { level: u32 },
 }
 
-// Row 1 alone. An address of 2^39 or more would wrap into the same tables, and reaches nothing.
+// Row 1 alone.
 pub fn walk(arena: &[u64], tables: &[u64; Layout::TABLES], ipa: u64) -> Walked
     ensures { λ r. ⌜ toldOf r ≡ walkedFrom (now (arena .entry)) (now (tables .entry)) ipa ⌝ }
 {
     let verdict = lent::arena_len(arena);
     match verdict {
-        Verdict::Accepted => Walked::Told(walk_arena(arena, tables, ipa)),
+        Verdict::Accepted => Walked::Told(reach_of(descend(arena, tables, ipa), ipa)),
         Verdict::Refused(refusal) => Walked::Refused(refusal),
     }
 }
 
-fn walk_arena(arena: &[u64], tables: &[u64], ipa: u64) -> Reached
-    requires { ⌜ length (now arena) ≡ arenaLength ⌝ }
-    requires { ⌜ length (now tables) ≡ tableCount ⌝ }
-    ensures { λ r. ⌜ r ≡ walkOf (now (tables .entry)) (λ left. wordsOf (now (arena .entry))) ipa ⌝ }
+// From the l1 address on. An address of 2^39 or more would wrap into the same tables, and stops at level 0.
+pub fn descend(arena: &[u64], tables: &[u64; Layout::TABLES], ipa: u64) -> Stop
+    ensures { λ r. ⌜ r ≡ stopOf (now (tables .entry)) (λ left. wordsOf (now (arena .entry))) ipa ⌝ }
 {
     if Layout::ADDRESSABLE <= ipa {
-        return Reached::Nothing;
+        return Stop::Stopped { level: 0 };
     }
-    let l1 = tables[0];
-    let end = descend_from(&arena, &tables, 2, l1, ipa);
-    reach_of(stop_of(end), ipa)
+    let word = word_at(arena, tables, 2, tables[0], ipa);
+    stop_of(through(&arena, tables, 2, word, ipa))
 }
 
-// From the table named, with `left` levels below its own. The stop is one number, and slices are lent by a reference to them, so that
-// the compiler makes a loop of the recursion.
-fn descend_from(arena: &&[u64], tables: &&[u64], left: u32, named: u64, ipa: u64) -> u64
-    requires { ⌜ length (now (now arena)) ≡ arenaLength ⌝ }
-    requires { ⌜ length (now (now tables)) ≡ tableCount ⌝ }
-    requires { ⌜ left ≤ 2 ⌝ }
-    ensures { λ r. ⌜ r ≡ packed (descend (now (now (tables .entry))) (λ n. wordsOf (now (now (arena .entry)))) left named ipa) ⌝ }
+// The table that an entry's word leads to.
+pub fn next_table(word: u64) -> DecodedTable
+    ensures { λ r. ⌜ r ≡ nextTable word ⌝ }
 {
-    let word = word_at(*arena, *tables, left, named, ipa);
+    decode::decode_table(word)
+}
+
+// From an entry's word, with `left` levels below it. The stop is one number, and the slice is lent by a reference to it, so that the
+// compiler makes a loop of the recursion.
+fn through(arena: &&[u64], tables: &[u64; Layout::TABLES], left: u32, word: u64, ipa: u64) -> u64
+    requires { ⌜ left ≤ 2 ⌝ }
+    ensures { λ r. ⌜ r ≡ packed (through (now (tables .entry)) (λ n. wordsOf (now (now (arena .entry)))) left word ipa) ⌝ }
+{
     if left == 0 {
         return end_at(left, word);
     }
-    let DecodedTable::At(next) = decode::decode_table(word) else {
+    let DecodedTable::At(next) = next_table(word) else {
         return end_at(left, word);
     };
-    descend_from(arena, tables, left - 1, next, ipa)
+    let below = left - 1;
+    let entry = word_at(*arena, tables, below, next, ipa);
+    through(arena, tables, below, entry, ipa)
 }
 
 // A page at level 3, a block at level 2; level 1 knows none.
@@ -105,9 +108,7 @@ fn stop_of(end: u64) -> Stop
 }
 
 // The word that a read sees with `left` levels below.
-fn word_at(arena: &[u64], tables: &[u64], left: u32, named: u64, ipa: u64) -> u64
-    requires { ⌜ length (now arena) ≡ arenaLength ⌝ }
-    requires { ⌜ length (now tables) ≡ tableCount ⌝ }
+fn word_at(arena: &[u64], tables: &[u64; Layout::TABLES], left: u32, named: u64, ipa: u64) -> u64
     requires { ⌜ left ≤ 2 ⌝ }
     ensures { λ r. ⌜ r ≡ fetch 0 (now (tables .entry)) (wordsOf (now (arena .entry))) named (index left ipa) ⌝ }
 {
@@ -127,16 +128,19 @@ fn index_at(left: u32, ipa: u64) -> usize
     }
 }
 
-// The first table whose address is the one named; none other is in reach, and reads as zero.
-fn fetch_from(arena: &[u64], tables: &[u64], named: u64, index: usize) -> u64
-    requires { ⌜ length (now arena) ≡ arenaLength ⌝ }
-    requires { ⌜ length (now tables) ≡ tableCount ⌝ }
+// The first table whose address is the one named; none other is in reach, and reads as zero, as do words past a short arena.
+fn fetch_from(arena: &[u64], tables: &[u64; Layout::TABLES], named: u64, index: usize) -> u64
     requires { ⌜ index < entries ⌝ }
     ensures { λ r. ⌜ r ≡ fetch 0 (now (tables .entry)) (wordsOf (now (arena .entry))) named index ⌝ }
 {
+    let listed: &[u64] = tables;
     for t in 0..Layout::TABLES {
-        if tables[t] == named {
-            return arena[t * Layout::ENTRIES + index];
+        if listed[t] == named {
+            let place = t * Layout::ENTRIES + index;
+            if place < arena.len() {
+                return arena[place];
+            }
+            return 0;
         }
     }
     0

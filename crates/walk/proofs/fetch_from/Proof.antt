@@ -2,7 +2,7 @@
 use Prim.Native.Nat.{_*_, _+_, _-_}
 use mathlib.Core.Path.{_≡_, _∙_, refl, sym}
 use native.Mathlib.Omega.{arith}
-use lib.ListN.{drop}
+use lib.ListN.{drop, List·getD-eq-default}
 use borrow.Author.Needs.{needs}
 use borrow.Author.Tests.{eq-eqb, ne-eqb}
 use denote.Ref.{now}
@@ -13,12 +13,12 @@ use Rattle.walk.proofs.fetch_from.Statement.{statement}
 use Rattle.walk.proofs.fetch_from.Tie as tie
 
 abbrev Inv-loop : tie.InvT-loop
-Inv-loop arena tables named index t₀ t =
+Inv-loop arena tables named index listed t₀ t =
     fetch 0 tables (wordsOf arena) named index
     ≡ fetchFrom (t * entries) 0 (drop t tables) (wordsOf arena) named index
 
 abbrev μ-loop : tie.MeasureT-loop
-μ-loop arena tables named index t₀ t = 6 - t
+μ-loop arena tables named index listed t₀ t = 6 - t
 
 loop-holds : tie.Need-loop-holds Inv-loop μ-loop
 loop-holds c = refl
@@ -29,24 +29,40 @@ mul-if1 c = search needs
 shared-slice-read-if1 : tie.Need-shared-slice-read-if1 Inv-loop μ-loop
 shared-slice-read-if1 c = search needs
 
+mul-place : tie.Need-mul-place Inv-loop μ-loop
+mul-place c = search needs
+
+add-place : tie.Need-add-place Inv-loop μ-loop
+add-place c = search needs
+
 mul-result : tie.Need-mul-result Inv-loop μ-loop
 mul-result c = search needs
-
-add-result : tie.Need-add-result Inv-loop μ-loop
-add-result c = search needs
-
-mul-result-2 : tie.Need-mul-result-2 Inv-loop μ-loop
-mul-result-2 c = search needs
 
 shared-slice-read-result : tie.Need-shared-slice-read-result Inv-loop μ-loop
 shared-slice-read-result c = search needs
 
 returns : tie.Need-returns Inv-loop μ-loop
 returns c =
-    let h = c .before .before .before .before in
-    let a = h .before .args in
-    let here = fetch-at (h .loop .t * entries) 0 (now (a .tables)) (h .loop .t) (wordsOf (now (a .arena))) (a .named) (a .index) (omega (arith, h .before .pre)) in
-    sym (h .loop .inv ∙ here ∙ simp (eq-eqb _ _ (c .before .if1 .taken)))
+    let t = c .before .before in
+    let h = t .before .before .before in
+    let l = h .before in
+    let a = l .before .args in
+    let here =
+    fetch-at (h .loop .t * entries) 0 (now (a .tables)) (h .loop .t) (wordsOf (now (a .arena))) (a .named) (a .index)
+    (omega (arith, l .listed .given .0)) in
+    sym (h .loop .inv ∙ here ∙ simp (eq-eqb _ _ (t .if1 .taken)))
+
+returns-2 : tie.Need-returns-2 Inv-loop μ-loop
+returns-2 c =
+    let t = c .before in
+    let h = t .before .before .before in
+    let l = h .before in
+    let a = l .before .args in
+    let here =
+    fetch-at (h .loop .t * entries) 0 (now (a .tables)) (h .loop .t) (wordsOf (now (a .arena))) (a .named) (a .index)
+    (omega (arith, l .listed .given .0)) in
+    let zero = List·getD-eq-default (now (a .arena)) 0 (c .if2 .left) in
+    sym (h .loop .inv ∙ here ∙ simp (eq-eqb _ _ (t .if1 .taken), zero))
 
 add-t : tie.Need-add-t Inv-loop μ-loop
 add-t c = search needs
@@ -57,16 +73,23 @@ loop-less c = search needs
 loop-again : tie.Need-loop-again Inv-loop μ-loop
 loop-again c =
     let h = c .before .before .before in
-    let a = h .before .args in
-    let here = fetch-at (h .loop .t * entries) 0 (now (a .tables)) (h .loop .t) (wordsOf (now (a .arena))) (a .named) (a .index) (omega (arith, h .before .pre)) in
+    let l = h .before in
+    let a = l .before .args in
+    let here =
+    fetch-at (h .loop .t * entries) 0 (now (a .tables)) (h .loop .t) (wordsOf (now (a .arena))) (a .named) (a .index)
+    (omega (arith, l .listed .given .0)) in
     let next : h .loop .t * entries + entries ≡ (h .loop .t + 1) * entries = omega arith in
     h .loop .inv ∙ here ∙ simp (ne-eqb _ _ (c .if1 .left), next)
 
-returns-2 : tie.Need-returns-2 Inv-loop μ-loop
-returns-2 c =
+returns-3 : tie.Need-returns-3 Inv-loop μ-loop
+returns-3 c =
     let h = c .before in
-    let a = h .before .args in
-    sym (h .loop .inv ∙ fetch-end (h .loop .t * entries) 0 (now (a .tables)) (h .loop .t) (wordsOf (now (a .arena))) (a .named) (a .index) (omega (arith, h .before .pre)))
+    let l = h .before in
+    let a = l .before .args in
+    let end =
+    fetch-end (h .loop .t * entries) 0 (now (a .tables)) (h .loop .t) (wordsOf (now (a .arena))) (a .named) (a .index)
+    (omega (arith, l .listed .given .0)) in
+    sym (h .loop .inv ∙ end)
 
 pub fetch-from-spec : {M : Type 1} → statement M
 fetch-from-spec =
@@ -77,12 +100,13 @@ fetch-from-spec =
     loop-holds
     mul-if1
     shared-slice-read-if1
+    mul-place
+    add-place
     mul-result
-    add-result
-    mul-result-2
     shared-slice-read-result
     returns
+    returns-2
     add-t
     loop-less
     loop-again
-    returns-2)
+    returns-3)

@@ -15,7 +15,7 @@ fetch-from-requires c κs = search needs
 
 returns : tie.Need-returns
 returns c =
-    let a = c .before .before .before .before .args in
+    let a = c .before .before .before .args in
     c .fetch-from .ensures
     ∙ ap (λ (j : ℕ). fetch 0 (now (a .tables)) (wordsOf (now (a .arena))) (a .named) j) (c .before .index-at .ensures .0)
 
