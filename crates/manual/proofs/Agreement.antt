@@ -1,23 +1,24 @@
 -- Over ordinary words the walk and the manual go the same way, level by level, and read the same leaf.
-use Prim.Native.Nat.{ℕ, _+_, _*_, _%_, _^_}
+use Prim.Native.Nat.{ℕ, zero, suc, _+_, _%_}
 use mathlib.Core.Bool.{Bool, true, false, _||_, false≢true}
 use mathlib.Core.List.{List, [], _∷_}
 use mathlib.Core.Path.{_≡_, refl, sym, ap, _∙_}
 use native.Mathlib.Omega.{arith}
 use lib.Dec.{eqb, ltb}
 use borrow.Author.Tests.{eq-eqb}
-use Rattle.decode.specs.Decoded.{leafAt, decodedTable}
+use Rattle.decode.specs.declared.DecodedTable.the-variants.{At, Nothing as NoTable}
 use Rattle.desc.specs.Descriptor.{descriptorType, blockType, tableType, pageType, pageAddress, blockAddress}
 use Rattle.fields.specs.Bits.{bits}
 use Rattle.fields.specs.Named.{pick}
 use Rattle.layout.specs.Size.{entries, page, block, inputLimit}
-use Rattle.walk.specs.Descent.{Words, index, fetchFrom, endsAt, leads, descend}
-use Rattle.walk.specs.Walk.{joined, reading, walkOf}
-use Rattle.walk.specs.declared.Stop.the-variants.{Stopped}
-use Rattle.walk.specs.declared.Stop.{Stop}
+use Rattle.reach.specs.declared.Reached.the-variants.{Nothing}
+use Rattle.reach.specs.declared.Reached.{Reached}
+use Rattle.walk.specs.Descent.{Words, index, fetchFrom, endsAt, leads}
+use Rattle.walk.specs.Walk.{reading}
 use Rattle.manual.specs.Agreement.{alike, among, ordinary, WalksAgree}
-use Rattle.manual.specs.Translation.{Access, Machine, Translated, fault, leaf, level1, level2, level3, translation, allowed}
+use Rattle.manual.specs.Translation.{Access, Machine, Translated, fault, allowed}
 use Rattle.manual.proofs.Alike.{leaves-agree}
+use Rattle.manual.proofs.OneDescent.{from, answer, walkDescent, walk-descends, manualEnds, manualDescent, manual-descends}
 
 -- a table that is among those listed is read whatever stands outside, and its words are the arena's
 module _ (words : Words) (named j : ℕ) where
@@ -55,59 +56,37 @@ module _ (m : Machine) (ts : List ℕ) (a : Access) (x : ℕ) where
   within-block : bits 20 0 x ≡ x % block
   within-block = omega arith
 
-  -- one word, by its level; below a table word both go on alike
-  last :
-      (d : ℕ) → ordinary xnx ts 0 d ≡ true →
-      pick (eqb (descriptorType d) pageType) (leaf xnx a (pageAddress d + bits 11 0 x) d) fault ≡ allowed a (reading x (endsAt 0 d))
+  -- a word that ends the descent is read alike, by its level
+  abbrev Ends : ℕ → ℕ → Type 0
+  Ends left d = manualEnds m a x left d ≡ allowed a (reading x (endsAt left d))
+
+  last : (d : ℕ) → ordinary xnx ts 0 d ≡ true → Ends 0 d
   last d o = go (eqb (descriptorType d) pageType) refl
     where
-      go :
-          (b : Bool) → eqb (descriptorType d) pageType ≡ b →
-          pick b (leaf xnx a (pageAddress d + bits 11 0 x) d) fault ≡ allowed a (reading x (endsAt 0 d))
+      go : (b : Bool) → eqb (descriptorType d) pageType ≡ b → Ends 0 d
       go true e =
-          let r : reading x (endsAt 0 d) ≡ joined (x % page) (leafAt (pageAddress d) d) = rw e (rw e) in
           let h : alike xnx d ≡ true = rw e at o in
-          rw within-page (leaves-agree .enough xnx d h a (pageAddress d) (x % page) ∙ ap (allowed a) (sym r))
+          rw (e, within-page) (rw e (leaves-agree .enough xnx d h a (pageAddress d) (x % page)))
       go false e = rw e
 
-  module _ (d : ℕ) (down : ℕ → Translated) (below : ℕ → Stop) (on : (named : ℕ) → among ts named ≡ true → down named ≡ allowed a (reading x (below named))) where
-    middle :
-        ordinary xnx ts 1 d ≡ true →
-        pick (eqb (descriptorType d) tableType) (down (pageAddress d))
-        (pick (eqb (descriptorType d) blockType) (leaf xnx a (blockAddress d + bits 20 0 x) d) fault)
-        ≡ allowed a (reading x (leads (decodedTable d) below (endsAt 1 d)))
-    middle o = go (eqb (descriptorType d) tableType) (eqb (descriptorType d) blockType) refl refl
-      where
-        go :
-            (b c : Bool) → eqb (descriptorType d) tableType ≡ b → eqb (descriptorType d) blockType ≡ c →
-            pick b (down (pageAddress d)) (pick c (leaf xnx a (blockAddress d + bits 20 0 x) d) fault)
-            ≡ allowed a (reading x (leads (decodedTable d) below (endsAt 1 d)))
-        go true c e f =
-            let r : leads (decodedTable d) below (endsAt 1 d) ≡ below (pageAddress d) = rw e in
-            let h : among ts (pageAddress d) ≡ true = rw e at o in
-            on (pageAddress d) h ∙ ap (λ s. allowed a (reading x s)) (sym r)
-        go false true e f =
-            let r : reading x (leads (decodedTable d) below (endsAt 1 d)) ≡ joined (x % block) (leafAt (blockAddress d) d) = rw (e, f) (rw f) in
-            let h : alike xnx d ≡ true = rw (e, f) at o in
-            rw within-block (leaves-agree .enough xnx d h a (blockAddress d) (x % block) ∙ ap (allowed a) (sym r))
-        go false false e f = rw (e, f)
+  ends : (left d : ℕ) → eqb (descriptorType d) tableType ≡ false → ordinary xnx ts (suc left) d ≡ true → Ends (suc left) d
+  ends zero d n o = go (eqb (descriptorType d) blockType) refl
+    where
+      go : (b : Bool) → eqb (descriptorType d) blockType ≡ b → Ends 1 d
+      go true e =
+          let h : alike xnx d ≡ true = rw (n, e) at o in
+          rw (e, within-block) (rw e (leaves-agree .enough xnx d h a (blockAddress d) (x % block)))
+      go false e = rw e
+  ends (suc left) d n o = go (eqb (descriptorType d) blockType) refl
+    where
+      go : (b : Bool) → eqb (descriptorType d) blockType ≡ b → Ends (suc (suc left)) d
+      go true e = let h : false ≡ true = rw (n, e) at o in absurd (false≢true h)
+      go false e = rw e
 
-    top :
-        (out : ℕ) → ordinary xnx ts 2 d ≡ true →
-        pick (eqb (descriptorType d) tableType) (down (pageAddress d)) (pick (eqb (descriptorType d) blockType) (leaf xnx a out d) fault)
-        ≡ allowed a (reading x (leads (decodedTable d) below (endsAt 2 d)))
-    top out o = go (eqb (descriptorType d) tableType) (eqb (descriptorType d) blockType) refl refl
-      where
-        go :
-            (b c : Bool) → eqb (descriptorType d) tableType ≡ b → eqb (descriptorType d) blockType ≡ c →
-            pick b (down (pageAddress d)) (pick c (leaf xnx a out d) fault)
-            ≡ allowed a (reading x (leads (decodedTable d) below (endsAt 2 d)))
-        go true c e f =
-            let r : leads (decodedTable d) below (endsAt 2 d) ≡ below (pageAddress d) = rw e in
-            let h : among ts (pageAddress d) ≡ true = rw e at o in
-            on (pageAddress d) h ∙ ap (λ s. allowed a (reading x s)) (sym r)
-        go false true e f = let h : false ≡ true = rw (e, f) at o in absurd (false≢true h)
-        go false false e f = rw e
+  -- one that names a table names one of these
+  names : (left d : ℕ) → eqb (descriptorType d) tableType ≡ true → ordinary xnx ts (suc left) d ≡ true → among ts (pageAddress d) ≡ true
+  names zero d e o = rw e at o
+  names (suc left) d e o = rw e at o
 
   module _ (ws : ℕ → Words) (all : (left i : ℕ) → ordinary xnx ts left (ws left i) ≡ true) where
     abbrev word : ℕ → ℕ → ℕ
@@ -120,31 +99,42 @@ module _ (m : Machine) (ts : List ℕ) (a : Access) (x : ℕ) where
     plain : (left named : ℕ) → among ts named ≡ true → ordinary xnx ts left (word left named) ≡ true
     plain left named h = one-of (ws left) named (index left x) (λ d. ordinary xnx ts left d ≡ true) (all left) ts 0 h
 
-    agree-3 : (named : ℕ) → among ts named ≡ true → level3 m ts ws a x named ≡ allowed a (reading x (descend ts ws 0 named x))
-    unfolding level3 descend
-    agree-3 named h = rw (read 0 named (m .elsewhere named (index 0 x)) h) (last (word 0 named) (plain 0 named h))
+    agree :
+        (left named : ℕ) → among ts named ≡ true →
+        from (manualDescent m a) ts x ws left named ≡ allowed a (from walkDescent ts x ws left named)
+    unfolding from
+    agree zero named h = rw (read 0 named (m .elsewhere named (index 0 x)) h) (last (word 0 named) (plain 0 named h))
+    agree (suc left) named h =
+        rw (read (suc left) named (m .elsewhere named (index (suc left) x)) h)
+        (go (word (suc left) named) (plain (suc left) named h) (eqb (descriptorType (word (suc left) named)) tableType) refl (agree left))
+      where
+        down : ℕ → Translated
+        down = from (manualDescent m a) ts x ws left
 
-    agree-2 : (named : ℕ) → among ts named ≡ true → level2 m ts ws a x named ≡ allowed a (reading x (descend ts ws 1 named x))
-    unfolding level2 descend
-    agree-2 named h =
-        rw (read 1 named (m .elsewhere named (index 1 x)) h)
-        (middle (word 1 named) (level3 m ts ws a x) (λ next. descend ts ws 0 next x) agree-3 (plain 1 named h))
+        below : ℕ → Reached
+        below = from walkDescent ts x ws left
 
-    agree-1 : (named : ℕ) → among ts named ≡ true → level1 m ts ws a x named ≡ allowed a (reading x (descend ts ws 2 named x))
-    unfolding level1 descend
-    agree-1 named h =
-        rw (read 2 named (m .elsewhere named (index 2 x)) h)
-        (top (word 2 named) (level2 m ts ws a x) (λ next. descend ts ws 1 next x) agree-2 (bits 47 30 (word 2 named) * 2 ^ 30 + bits 29 0 x) (plain 2 named h))
+        go :
+            (d : ℕ) → ordinary xnx ts (suc left) d ≡ true → (b : Bool) → eqb (descriptorType d) tableType ≡ b →
+            ((next : ℕ) → among ts next ≡ true → down next ≡ allowed a (below next)) →
+            leads (pick b (At (pageAddress d)) NoTable) down (manualEnds m a x (suc left) d)
+            ≡ allowed a (leads (pick b (At (pageAddress d)) NoTable) below (reading x (endsAt (suc left) d)))
+        go d o true e on = on (pageAddress d) (names left d e o)
+        go d o false e on = ends left d e o
 
 pub walks-agree : WalksAgree
-unfolding translation walkOf
-walks-agree m l1 others ws all a x = go (ltb x inputLimit) refl
+unfolding answer
+walks-agree m l1 others ws all a x =
+    manual-descends m a (l1 ∷ others) ws x
+    ∙ go (ltb x inputLimit)
+    ∙ ap (allowed a) (sym (walk-descends (l1 ∷ others) ws x))
   where
     first : among (l1 ∷ others) l1 ≡ true
     first = rw (eq-eqb l1 l1 refl)
 
     go :
-        (b : Bool) → ltb x inputLimit ≡ b →
-        pick b (level1 m (l1 ∷ others) ws a x l1) fault ≡ allowed a (reading x (pick b (descend (l1 ∷ others) ws 2 l1 x) (Stopped 0)))
-    go true e = agree-1 m (l1 ∷ others) a x ws all l1 first
-    go false e = refl
+        (b : Bool) →
+        pick b (from (manualDescent m a) (l1 ∷ others) x ws 2 l1) fault
+        ≡ allowed a (pick b (from walkDescent (l1 ∷ others) x ws 2 l1) Nothing)
+    go true = agree m (l1 ∷ others) a x ws all 2 l1 first
+    go false = refl

@@ -12,10 +12,10 @@ use borrow.Author.Tests.{eqb-true, eqb-false, leb-true, leb-false, ltb-true, ltb
 use Rattle.arena.specs.Encoded.{target}
 use Rattle.fields.specs.Named.{pick}
 use Rattle.layout.specs.Size.{arenaLength}
+use Rattle.manual.proofs.OneDescent.{Either}
 use Rattle.update.specs.Step.{halfway, stepCount, placeOf, storedBy}
 use Rattle.updates.specs.Cuts.{targetFrom, wordAfter}
 use Rattle.updates.specs.Demand3.{Source}
-use Rattle.updates.proofs.Torn.{Either}
 
 module _ (k : ℕ) (old : List ℕ) (s : Source) (i : ℕ) where
   pub zeroed : k ≤ halfway → i < k → wordAfter k old s i ≡ 0

@@ -11,6 +11,7 @@ use lib.ListN.{length, getD, List·getD-eq-default}
 use lib.Seq.{ext-getD}
 use borrow.Author.Tests.{ltb-true, ltb-false}
 use Rattle.layout.specs.Size.{arenaLength}
+use Rattle.manual.proofs.OneDescent.{Either, Torn}
 use Rattle.update.specs.Step.{halfway, stepCount}
 use Rattle.walk.specs.Descent.{Words, wordsOf}
 use Rattle.updates.specs.Cuts.{targetFrom, wordAfter, WordByWord}
@@ -19,7 +20,7 @@ use Rattle.updates.proofs.AfterStores.{zeroed, untouched, stored, from-
 use Rattle.updates.proofs.Granting.{base-entries, sup-entries, same-target, same-granted}
 use Rattle.updates.proofs.Lawful.{Lawful, walk-lawful, manual-lawful}
 use Rattle.updates.proofs.State.{Begun, Known, known-at}
-use Rattle.updates.proofs.Torn.{Torn, Either, along, towards}
+use Rattle.updates.proofs.Torn.{along, towards}
 
 -- past the arena there are zeros
 past : (words : List ℕ) (i : ℕ) → length words ≡ arenaLength → arenaLength ≤ i → getD words i 0 ≡ 0

@@ -1,4 +1,4 @@
--- What demand 3 uses of a reader of tables, and that the walk and the manual's translation have it.
+-- What demand 3 uses of a reader of tables; the walk and the manual's translation have it, each being a descent.
 use Prim.Native.Nat.{ℕ, _<_}
 use mathlib.Core.List.{List, _∷_}
 use mathlib.Core.Path.{_≡_}
@@ -6,13 +6,15 @@ use Rattle.accepted.specs.Guarded.{Guarded}
 use Rattle.arena.specs.Encoded.{target}
 use Rattle.layout.specs.Size.{outputLimit, arenaLength}
 use Rattle.layout.specs.declared.Layout.{Layout}
+use Rattle.manual.proofs.OneDescent.{Either, Torn, walkDescent, walk-descends, manualDescent, manual-descends}
 use Rattle.manual.specs.Translation.{Machine, Access}
 use Rattle.walk.specs.Descent.{Words}
+use Rattle.walk.specs.Walk.{walkOf}
 use Rattle.walks.proofs.Demand2.{reaches}
 use Rattle.walks.specs.Demand2.{addressesOf}
 use Rattle.window_reach.specs.Granted.{granted}
 use Rattle.updates.specs.Demand3.{EachRead, Reader, theWalk, theManual}
-use Rattle.updates.proofs.Torn.{Torn, Either, walk-torn, walk-same, walk-zeros, manual-torn, manual-same, manual-zeros}
+use Rattle.updates.proofs.Torn.{reads-torn, reads-same, reads-zeros}
 
 pub record Lawful {A : Type 0} (r : Reader A) : Type 0 where
   pub torn :
@@ -33,17 +35,17 @@ pub record Lawful {A : Type 0} (r : Reader A) : Type 0 where
 pub walk-lawful : Lawful theWalk
 walk-lawful =
     record {
-      torn = walk-torn;
-      same = walk-same;
-      zeros = walk-zeros;
+      torn = reads-torn walkDescent walkOf walk-descends;
+      same = reads-same walkDescent walkOf walk-descends;
+      zeros = reads-zeros walkDescent walkOf walk-descends;
       grants = λ l base sup words x g is. reaches l base sup words g is x .walks;
     }
 
 pub manual-lawful : (m : Machine) (a : Access) → Lawful (theManual m a)
 manual-lawful m a =
     record {
-      torn = manual-torn m a;
-      same = manual-same m a;
-      zeros = λ l1 others ws x z. manual-zeros l1 others ws x z m a;
+      torn = reads-torn (manualDescent m a) (theManual m a .reads) (manual-descends m a);
+      same = reads-same (manualDescent m a) (theManual m a .reads) (manual-descends m a);
+      zeros = reads-zeros (manualDescent m a) (theManual m a .reads) (manual-descends m a);
       grants = λ l base sup words x g is. reaches l base sup words g is x .translates m a;
     }

@@ -49,7 +49,7 @@ abbrev pub nextTable : ℕ → DecodedTable
 nextTable d = decodedTable d
 
 -- on from the table that a word leads to; where there is none, the descent ends here
-abbrev pub leads : DecodedTable → (ℕ → Stop) → Stop → Stop
+abbrev pub leads : {A : Type 0} → DecodedTable → (ℕ → A) → A → A
 leads (At named) down here = down named
 leads Nothing down here = here
 
