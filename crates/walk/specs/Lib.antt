@@ -1,3 +1,4 @@
 pub mod Descent
 pub mod Packed
+pub mod Path
 pub mod Walk

@@ -33,13 +33,15 @@ use Rattle.reach.specs.declared.Reached.the-variants.{Nothing}
 use Rattle.refusal.proofs.All.{all-at, all-map, all-always, pairs-map}
 use Rattle.tables.proofs.Arena.{from-zeros}
 use Rattle.walk.specs.Descent.{Words, wordsOf, index}
+use Rattle.walk.specs.Path.{PathAgrees}
 use Rattle.walk.specs.Walk.{walkOf}
 use Rattle.window_reach.specs.Granted.{Region, imageRegion, dataRegion, superRegion, deviceRegion, regionsOf, contains, grantedBy, granted}
-use Rattle.walks.specs.Demand2.{addressesOf, Reaches, Demand2, Demand2Encoded}
+use Rattle.walks.specs.Demand2.{addressesOf, Reaches, Demand2, Demand2Whole, Demand2Encoded}
 use Rattle.walks.proofs.Entries.{Entry, page-entry, block-entry, image-entry, device-entry}
 use Rattle.walks.proofs.Fetched.{both, allPresent, present-at, fetched}
 use Rattle.walks.proofs.Leaves.{BlockLeaf}
 use Rattle.walks.proofs.Parts.{Part, part, areaIn, In, granted-none, seen-in}
+use Rattle.walks.proofs.Path.{seen-along, whole-path}
 use Rattle.walks.proofs.Seen.{Names-table, table-names, Finds, Seen, blank1, walk-seen, manual-seen}
 use Rattle.walks.proofs.Slots.{not-here, past-limit}
 use Rattle.walks.proofs.Windows.{block-window, page-window}
@@ -251,17 +253,40 @@ module _ (l : Layout) (base sup : List ℕ) (g : Guarded boardLimit base sup l) 
       (all-map _ (λ r. contains (r .window) x ≡ false) (λ r within. past-limit boardLimit (r .window) x within h) (regionsOf l base sup)
       (g .layout .windows))
 
-pub reaches : (l : Layout) (base sup : List ℕ) → Guarded boardLimit base sup l → (x : ℕ) → Reaches l base sup (target l base sup) x
+pub reaches :
+    (l : Layout) (base sup : List ℕ) (words : Words) →
+    Guarded boardLimit base sup l →
+    (x : ℕ) → PathAgrees (addressesOf l) words (target l base sup) x → Reaches l base sup words x
 unfolding walkOf translation
-reaches l base sup g x = go (ltb x inputLimit) refl
+reaches l base sup words g x path = go (ltb x inputLimit) refl
   where
-    go : (b : Bool) → ltb x inputLimit ≡ b → Reaches l base sup (target l base sup) x
+    go : (b : Bool) → ltb x inputLimit ≡ b → Reaches l base sup words x
     go true t =
         let low = ltb-true _ _ t in
-        let s = seen l base sup g x low in
+        let s = seen-along (addressesOf l) words (target l base sup) x _ (path low) (seen l base sup g x low) in
         record {
-          walks = walk-seen (addressesOf l) (target l base sup) x low _ s;
-          translates = λ m a. manual-seen (addressesOf l) (target l base sup) x low m a _ s;
+          walks = walk-seen (addressesOf l) words x low _ s;
+          translates = λ m a. manual-seen (addressesOf l) words x low m a _ s;
         }
     go false t =
         let p = past l base sup g x (ltb-false _ _ t) in record { walks = rw (t, p); translates = λ m a. rw (t, p) }
+
+pub demand-2 : Demand2
+demand-2 l base sup words e = reaches l base sup words (guarded-facts boardLimit base sup l e)
+
+pub reaches-whole :
+    (l : Layout) (base sup : List ℕ) (words : Words) →
+    Guarded boardLimit base sup l →
+    ((i : ℕ) → i < arenaLength → words i ≡ target l base sup i) → (x : ℕ) → Reaches l base sup words x
+reaches-whole l base sup words g all x =
+    reaches l base sup words g x (λ low. whole-path (addressesOf l) words (target l base sup) x all (l .«l1_pa»))
+
+pub demand-2-whole : Demand2Whole
+demand-2-whole l base sup words e = reaches-whole l base sup words (guarded-facts boardLimit base sup l e)
+
+pub demand-2-encoded : Demand2Encoded
+demand-2-encoded l base sup new e =
+    let g = arena-guarded-facts boardLimit (replicate arenaLength 0) base sup l (sym (e .answer)) .1 in
+    let long = length-replicate {A = ℕ} arenaLength 0 in
+    let over = from-zeros boardLimit l base sup new e in
+    reaches-whole l base sup (wordsOf new) g (λ i h. over .word i (omega (arith, h, long)))

@@ -5,6 +5,7 @@ pub mod Fetched
 pub mod Leaves
 pub mod OutOfReach
 pub mod Parts
+pub mod Path
 pub mod Seen
 pub mod Slots
 pub mod Tabled

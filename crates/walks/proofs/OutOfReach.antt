@@ -14,7 +14,7 @@ use Rattle.exposed.specs.Exposed.{liesIn, firstWindow, firstTable}
 use Rattle.fields.specs.Named.{pick}
 use Rattle.layout.specs.Layout.{layoutOf, tablesOf}
 use Rattle.layout.specs.Size.{page, block, boardLimit}
-use Rattle.layout.specs.Window.{imageWindow, dataWindow, superWindow, deviceWindow, windowsOf}
+use Rattle.layout.specs.Window.{imageWindow, windowsOf}
 use Rattle.layout.specs.declared.Layout.{Layout}
 use Rattle.layout.specs.declared.Table.{Table}
 use Rattle.layout.specs.declared.Window.{Window}
@@ -23,13 +23,14 @@ use Rattle.perm.specs.declared.Perm.{Perm}
 use Rattle.reach.specs.declared.Reach.{Reach}
 use Rattle.reach.specs.declared.Reached.{Reached}
 use Rattle.reach.specs.declared.Reached.the-variants.{At, Nothing}
+use Rattle.refusal.proofs.All.{all-map, all-both}
 use Rattle.refusal.specs.All.{All}
 use Rattle.refusal.specs.Table.{first, eachFrom, pairs}
 use Rattle.rows.specs.Rows.{row1, row2, row3, row4, row5, row6, row7, row8, row9, row10, row13, row14, lengthRows, mapRows, pairRows, windowRows, refusalsAt, guardRows, arenaGuardRows}
 use Rattle.window_reach.proofs.Contains.{Inside, inside}
 use Rattle.window_reach.specs.Granted.{Region, regionsOf, contains, reachAt, byEntry, grantedIn, grantedBy, granted}
 use Rattle.walks.specs.OutOfReach.{ByteOf, OutOfReach, TableHandedOut}
-use Rattle.walks.proofs.Demand2.{image-itself, demand-2}
+use Rattle.walks.proofs.Demand2.{image-itself, demand-2-whole}
 
 abbrev outputAt : Reached → ℕ
 outputAt (At r) = r .pa
@@ -69,14 +70,14 @@ module _ (x : ℕ) (r : Reach) where
       go true c f later = a .0 (inside (g .window) x c) (at-output _ (g .exempt) (g .entry ((x - g .window .ipa) / g .piece)) r f)
       go false c f later = later f
 
-  module _ (t : Table) (whole : t .pa % page ≡ 0) (byte : ByteOf t (r .pa)) where
+  module _ (t : Table) (there : t .present ≡ true) (whole : t .pa % page ≡ 0) (byte : ByteOf t (r .pa)) where
     begins : (pa span away : ℕ) → pa % page ≡ 0 → away < span → r .pa ≡ pa + away → (pa ≤ t .pa) × (t .pa < pa + span)
     begins pa span away a b e = (omega (arith, a, whole, byte .1, e), omega (arith, b, byte .0, e))
 
     off : (w : Window) → (w .present ≡ true → w .pa % page ≡ 0) → liesIn t w ≡ false → Inside w x → r .pa ≡ w .pa + (x - w .ipa) → ⊥
     off w aligned f i e =
         let b = begins (w .pa) (w .span) (x - w .ipa) (aligned (i .there)) (i .before) e in
-        let l : liesIn t w ≡ true = rw (i .there, le-leb _ _ (b .0), lt-ltb _ _ (b .1)) in false≢true (sym f ∙ l)
+        let l : liesIn t w ≡ true = rw (there, i .there, le-leb _ _ (b .0), lt-ltb _ _ (b .1)) in false≢true (sym f ∙ l)
 
 by-blocks : (n : ℕ) → n % block ≡ 0 → n % page ≡ 0
 by-blocks n h = omega (arith, h)
@@ -89,30 +90,30 @@ module _ (l : Layout) (base sup : List ℕ) (g : Guarded boardLimit base sup l) 
   image-pages p =
       by-blocks (image .pa) (ap (λ (n : ℕ). n % block) (image-itself (l .«guest_image_pa»)) ∙ g .layout .image p)
 
-  no-byte : (t : Table) → Nameable boardLimit t → All (λ w. liesIn t w ≡ false) (windowsOf l) → ByteOf t (r .pa) → ⊥
-  no-byte t n a byte =
-      let away = off x r t (n .aligned) byte in
-      nowhere x r (regionsOf l base sup) e (
-        away image image-pages (a .0),
-        (
-          away (dataWindow l) (λ p. g .layout .data-pa) (a .1 .0),
-          (
-            away (superWindow l) (λ p. by-blocks _ (g .layout .sup-pa)) (a .1 .1 .0),
-            (away (deviceWindow l) (λ p. by-blocks _ (g .layout .device p)) (a .1 .1 .1 .0), tt),
-          ),
-        ),
-      )
+  -- an output begins with a page
+  pages : All (λ w. w .present ≡ true → w .pa % page ≡ 0) (windowsOf l)
+  pages = (
+    image-pages,
+    (λ p. g .layout .data-pa, (λ p. by-blocks _ (g .layout .sup-pa), (λ p. by-blocks _ (g .layout .devices .0 p), tt))),
+  )
 
-  no-bytes :
-      (ts : List Table) → All (Nameable boardLimit) ts → All (λ t. All (λ w. liesIn t w ≡ false) (windowsOf l)) ts →
-      All (λ t. ByteOf t (r .pa) → ⊥) ts
-  no-bytes [] n a = tt
-  no-bytes (t ∷ ts) n a = (no-byte t (n .0) (a .0), no-bytes ts (n .1) (a .1))
+  abbrev Clear : Table → Type 0
+  Clear t = All (λ w. liesIn t w ≡ false) (windowsOf l)
+
+  no-byte : (t : Table) → (t .present ≡ true → Nameable boardLimit t) → Clear t → t .present ≡ true → ByteOf t (r .pa) → ⊥
+  no-byte t n a there byte =
+      nowhere x r (regionsOf l base sup) e
+      (all-map (λ g. (g .window .present ≡ true → g .window .pa % page ≡ 0) × (liesIn t (g .window) ≡ false)) (Not-from x r)
+      (λ g b. off x r t there (n there .aligned) byte (g .window) (b .0) (b .1)) (regionsOf l base sup)
+      (all-both (λ (g : Region). g .window .present ≡ true → g .window .pa % page ≡ 0) (λ (g : Region). liesIn t (g .window) ≡ false) (regionsOf l base sup) pages a))
 
 pub out-of-reach : OutOfReach
 out-of-reach l base sup words e all apart x r walked =
     let g = guarded-facts boardLimit base sup l e in
-    no-bytes l base sup g x r (sym (demand-2 l base sup words e all x .walks) ∙ walked) (tablesOf l) (g .layout .tables) apart
+    let granted-at = sym (demand-2-whole l base sup words e all x .walks) ∙ walked in
+    all-map (λ t. (t .present ≡ true → Nameable boardLimit t) × Clear l base sup g x r granted-at t) _
+    (λ t b. no-byte l base sup g x r granted-at t (b .0) (b .1)) (tablesOf l)
+    (all-both (λ (t : Table). t .present ≡ true → Nameable boardLimit t) (Clear l base sup g x r granted-at) (tablesOf l) (g .layout .tables) apart)
 
 pub table-handed-out : TableHandedOut
 unfolding layoutOf first flatMap eachFrom pairs row1 row2 row3 row4 row5 row6 row7 row8 row9 row10 row13 row14 lengthRows mapRows pairRows windowRows refusalsAt guardRows arenaGuardRows grantedBy firstWindow firstTable

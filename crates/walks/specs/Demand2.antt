@@ -13,6 +13,7 @@ use Rattle.manual.specs.Translation.{Machine, Access, translation, allowed}
 use Rattle.refusal.specs.Table.{accepted, first}
 use Rattle.rows.specs.Rows.{guardRows}
 use Rattle.walk.specs.Descent.{Words, wordsOf}
+use Rattle.walk.specs.Path.{PathAgrees}
 use Rattle.walk.specs.Walk.{walkOf}
 use Rattle.window_reach.specs.Granted.{granted}
 
@@ -26,9 +27,16 @@ pub record Reaches (l : Layout) (base sup : List ℕ) (words : Words) (x : ℕ) 
   pub translates :
       (m : Machine) (a : Access) → translation m (addressesOf l) (λ left. words) a x ≡ allowed a (granted l base sup x)
 
--- where encoding is let by, over any words that are the target at every place
+-- where encoding is let by, over any words that are the target wherever a walk to the address reads them
 abbrev pub Demand2 : Type 0
 Demand2 =
+    (l : Layout) (base sup : List ℕ) (words : Words) →
+    first (guardRows boardLimit base sup l) ≡ accepted →
+    (x : ℕ) → PathAgrees (addressesOf l) words (target l base sup) x → Reaches l base sup words x
+
+-- as over words that are the target at every place
+abbrev pub Demand2Whole : Type 0
+Demand2Whole =
     (l : Layout) (base sup : List ℕ) (words : Words) →
     first (guardRows boardLimit base sup l) ≡ accepted →
     ((i : ℕ) → i < arenaLength → words i ≡ target l base sup i) → (x : ℕ) → Reaches l base sup words x

@@ -35,7 +35,7 @@ OutOfReach =
     ((i : ℕ) → i < arenaLength → words i ≡ target l base sup i) →
     All (λ t. All (λ w. liesIn t w ≡ false) (windowsOf l)) (tablesOf l) →
     (x : ℕ) (r : Reach) →
-    walkOf (addressesOf l) (λ left. words) x ≡ At r → All (λ t. ByteOf t (r .pa) → ⊥) (tablesOf l)
+    walkOf (addressesOf l) (λ left. words) x ≡ At r → All (λ t. t .present ≡ true → ByteOf t (r .pa) → ⊥) (tablesOf l)
 
 -- S with data pa 40000000 and base 0 Rw is accepted, and l1 is handed to the guest
 abbrev pub handedS : List ℕ
