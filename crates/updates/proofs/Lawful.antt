@@ -10,7 +10,7 @@ use Rattle.manual.proofs.OneDescent.{Either, Torn, walkDescent, walk-descends, 
 use Rattle.manual.specs.Translation.{Machine, Access}
 use Rattle.walk.specs.Descent.{Words}
 use Rattle.walk.specs.Walk.{walkOf}
-use Rattle.walks.proofs.Demand2.{reaches}
+use Rattle.walks.proofs.Demand2.{reaches-whole}
 use Rattle.walks.specs.Demand2.{addressesOf}
 use Rattle.window_reach.specs.Granted.{granted}
 use Rattle.updates.specs.Demand3.{EachRead, Reader, theWalk, theManual}
@@ -38,7 +38,7 @@ walk-lawful =
       torn = reads-torn walkDescent walkOf walk-descends;
       same = reads-same walkDescent walkOf walk-descends;
       zeros = reads-zeros walkDescent walkOf walk-descends;
-      grants = λ l base sup words x g is. reaches l base sup words g is x .walks;
+      grants = λ l base sup words x g is. reaches-whole l base sup words g is x .walks;
     }
 
 pub manual-lawful : (m : Machine) (a : Access) → Lawful (theManual m a)
@@ -47,5 +47,5 @@ manual-lawful m a =
       torn = reads-torn (manualDescent m a) (theManual m a .reads) (manual-descends m a);
       same = reads-same (manualDescent m a) (theManual m a .reads) (manual-descends m a);
       zeros = reads-zeros (manualDescent m a) (theManual m a .reads) (manual-descends m a);
-      grants = λ l base sup words x g is. reaches l base sup words g is x .translates m a;
+      grants = λ l base sup words x g is. reaches-whole l base sup words g is x .translates m a;
     }
