@@ -1,14 +1,14 @@
 -- Yes or no as a number, and answers as eight of them.
-use Prim.Native.Nat.{ℕ, _%_, _^_}
+use Prim.Native.Nat.{ℕ, _-_, _%_, _^_}
 use mathlib.Core.Bool.{Bool, not}
 use mathlib.Core.List.{List, _++_}
 use lib.Dec.{eqb}
-use lib.ListN.{take, replicate}
+use lib.ListN.{length, replicate}
 use mir.Val.{boolByte}
 
--- the numbers given, and zeros up to eight
+-- the numbers given, and zeros up to eight; a ninth is not cut
 abbrev pub eight : List ℕ → List ℕ
-eight xs = take 8 (xs ++ replicate 8 0)
+eight xs = xs ++ replicate (8 - length xs) 0
 
 -- no is 0, yes is 1
 abbrev pub bit : Bool → ℕ

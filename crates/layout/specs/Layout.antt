@@ -1,5 +1,5 @@
 -- The layout's fields as numbers, and its tables.
-use Prim.Native.Nat.{ℕ, _-_}
+use Prim.Native.Nat.{ℕ, _+_, _-_}
 use mathlib.Core.Bool.{Bool, true}
 use mathlib.Core.List.{List, [], _∷_}
 use lib.Dec.{eqb, ltb}
@@ -15,9 +15,13 @@ use Rattle.layout.specs.declared.Table.{Table}
 abbrev pub imageOf : ℕ → ℕ → GuestImage
 imageOf present pa = pick (eqb present 0) Absent (At pa)
 
+-- fields 01 to 10
+abbrev pub fieldCount : ℕ
+fieldCount = 0x10
+
 -- the fields, and whether there is an image
 abbrev pub numberCount : ℕ
-numberCount = 17
+numberCount = fieldCount + 1
 
 -- fields 01 to 10, with whether there is an image just before the image
 unfoldable pub layoutOf : List ℕ → Layout

@@ -103,8 +103,10 @@ impl Layout {
     pub const DEVICES: usize = 1;
     // Row 6's.
     pub const CHECKS: usize = 6;
+    // Numbered from 1.
+    pub const FIELDS: u64 = 0x10;
     // The fields, and whether there is an image.
-    pub const NUMBERS: usize = 17;
+    pub const NUMBERS: usize = Self::FIELDS as usize + 1;
 
     // The layout of board code's numbers: the fields in their order, with whether there is an image just before the image.
     pub fn of(x: &[u64; Self::NUMBERS]) -> Self

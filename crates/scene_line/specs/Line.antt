@@ -6,6 +6,7 @@ use lib.Dec.{eqb, leb}
 use lib.ListN.{length, take, drop}
 use Rattle.fields.specs.Ascii.{space}
 use Rattle.fields.specs.Named.{pick}
+use Rattle.layout.specs.Layout.{fieldCount}
 use Rattle.scene_line.specs.declared.Line.{Line}
 use Rattle.scene_line.specs.declared.Line.the-variants.{Field, Base, Super, Bad}
 use Rattle.scene_line.specs.declared.Number.{Number}
@@ -58,9 +59,9 @@ after cs = drop (firstSpace cs + 1) cs
 abbrev pub exemption : ℕ
 exemption = 0xF
 
--- field is 1 to 10, the exemption 0 or 1
+-- field is one of the layout's, the exemption 0 or 1
 abbrev pub isField : ℕ → ℕ → Bool
-isField n value = within 1 0x10 n && (not (eqb n exemption) || leb value 1)
+isField n value = within 1 fieldCount n && (not (eqb n exemption) || leb value 1)
 
 -- position at most 1FF, code at most 3
 abbrev pub isEntry : ℕ → ℕ → Bool

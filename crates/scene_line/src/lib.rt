@@ -1,4 +1,5 @@
 // What a line of a scene says (document 01, "Proved and printed").
+use layout::Layout;
 ghost use mathlib.Core.Path.{_≡_};
 ghost use Rattle.scene_line.specs.Line.{digitOf, firstSpace, letterL, lineOf, numberOf, said, saidAfter, says};
 
@@ -102,7 +103,7 @@ fn field(n: u64, value: u64) -> Line
     if n < 1 {
         return Line::Bad;
     }
-    if 0x10 < n {
+    if Layout::FIELDS < n {
         return Line::Bad;
     }
     if n == Line::EXEMPTION {
