@@ -14,8 +14,8 @@ use Rattle.fields.specs.Named.{pick}
 use Rattle.layout.specs.Size.{arenaLength}
 use Rattle.manual.proofs.OneDescent.{Either}
 use Rattle.update.specs.Step.{halfway, stepCount, placeOf, storedBy}
-use Rattle.updates.specs.Cuts.{targetFrom, wordAfter}
-use Rattle.updates.specs.Demand3.{Source}
+use Rattle.updates.specs.Sources.{Source}
+use Rattle.updates.specs.WordByWord.{targetFrom, wordAfter}
 
 module _ (k : ℕ) (old : List ℕ) (s : Source) (i : ℕ) where
   pub zeroed : k ≤ halfway → i < k → wordAfter k old s i ≡ 0

@@ -14,8 +14,11 @@ use Rattle.layout.specs.Size.{arenaLength}
 use Rattle.manual.proofs.OneDescent.{Either, Torn}
 use Rattle.update.specs.Step.{halfway, stepCount}
 use Rattle.walk.specs.Descent.{Words, wordsOf}
-use Rattle.updates.specs.Cuts.{targetFrom, wordAfter, WordByWord}
-use Rattle.updates.specs.Demand3.{Source, mapsOf, grantedFrom, Step, Cut, cutAfter, Premises, In, begun, to-begin, EachRead, Reader, theWalk, theManual, Concludes, Demand3}
+use Rattle.updates.specs.Cuts.{Step, Cut, cutAfter, In, begun, to-begin}
+use Rattle.updates.specs.Demand3.{Premises, Concludes, Demand3}
+use Rattle.updates.specs.Readers.{EachRead, Reader, theWalk, theManual}
+use Rattle.updates.specs.Sources.{Source, mapsOf, grantedFrom}
+use Rattle.updates.specs.WordByWord.{targetFrom, wordAfter, WordByWord}
 use Rattle.updates.proofs.AfterStores.{zeroed, untouched, stored, from-halfway}
 use Rattle.updates.proofs.Granting.{base-entries, sup-entries, same-target, same-granted}
 use Rattle.updates.proofs.Lawful.{Lawful, walk-lawful, manual-lawful}
@@ -55,14 +58,14 @@ module _ (tables words : List ℕ) (k : ℕ) (old : List ℕ) (s : Source) (b : 
 
   -- the words over which a reader answers as granted
   module _ {A : Type 0} (r : Reader A) (law : Lawful r) (whole : Words) (x : ℕ) (is : (i : ℕ) → i < arenaLength → whole i ≡ targetFrom s i) where
-    granting : r .reads tables (λ n. whole) x ≡ r .reaching (grantedFrom s x)
+    granting : r .gives tables (λ n. whole) x ≡ r .reaching (grantedFrom s x)
     granting =
         let l = s .layout in
         let pages = base-entries s (b .base) (b .sup) (b .maps) in
         let supers = sup-entries s (b .base) (b .sup) (b .maps) in
         let target-same = same-target l (b .base) (mapsOf s .base) (b .sup) (mapsOf s .sup) pages supers in
         let granted-same = same-granted l (b .base) (mapsOf s .base) (b .sup) (mapsOf s .sup) pages supers in
-        subst (λ ts. r .reads ts (λ n. whole) x ≡ r .reaching (grantedFrom s x)) (b .same-tables)
+        subst (λ ts. r .gives ts (λ n. whole) x ≡ r .reaching (grantedFrom s x)) (b .same-tables)
         (law .grants l (b .base) (b .sup) whole x (b .guarded) (λ i h. is i h ∙ sym (target-same i)) ∙ ap (r .reaching) (granted-same x))
 
 -- by the cut of a read
@@ -109,7 +112,7 @@ module _
 
     new-or-nothing :
         EachRead (λ n. halfway ≤ k n) →
-        Either (r .reads tables (λ n. wordsOf (at n)) x) (r .reaching (grantedFrom source x)) (r .nothing)
+        Either (r .gives tables (λ n. wordsOf (at n)) x) (r .reaching (grantedFrom source x)) (r .nothing)
     new-or-nothing h =
         towards (granting tables (at 0) (k 0) old source (begun-from 0 (omega arith)) r law (targetFrom source) x (λ i b. refl))
         (law .torn tables (λ n. wordsOf (at n)) (targetFrom source) x (λ n b. torn-new tables (at n) (k n) old source (begun-from n b) (h n b)))
@@ -117,15 +120,15 @@ module _
         begun-from : (n : ℕ) → n < 3 → Begun tables (at n) (k n) old source
         begun-from n b = begun-at n b (h n b)
 
-    nothing-at-half : EachRead (λ n. k n ≡ halfway) → r .reads tables (λ n. wordsOf (at n)) x ≡ r .nothing
+    nothing-at-half : EachRead (λ n. k n ≡ halfway) → r .gives tables (λ n. wordsOf (at n)) x ≡ r .nothing
     nothing-at-half h =
         let e = h 2 (omega arith) in
         let b = begun-at 2 (omega arith) (omega (arith, e)) in
-        subst (λ ts. r .reads ts (λ n. wordsOf (at n)) x ≡ r .nothing) (b .same-tables)
+        subst (λ ts. r .gives ts (λ n. wordsOf (at n)) x ≡ r .nothing) (b .same-tables)
         (law .zeros _ _ (λ n. wordsOf (at n)) x (all-zero tables (at 2) (k 2) old source b e))
 
     granted-at-last :
-        EachRead (λ n. k n ≡ stepCount) → r .reads tables (λ n. wordsOf (at n)) x ≡ r .reaching (grantedFrom source x)
+        EachRead (λ n. k n ≡ stepCount) → r .gives tables (λ n. wordsOf (at n)) x ≡ r .reaching (grantedFrom source x)
     granted-at-last h =
         law .same tables (λ n. wordsOf (at n)) (wordsOf (at 0)) x
         (λ n b. ap wordsOf (same-words tables (at n) (at 0) (k n) (k 0) old source (at-end n b) (at-end 0 low) (h n b) (h 0 low)))
@@ -139,7 +142,7 @@ module _
         at-end n b = begun-at n b (omega (arith, h n b))
 
     pub concludes :
-        Concludes k (r .nothing) (r .reads tables (λ n. wordsOf (at n)) x) (r .reads tables (λ n. wordsOf old) x)
+        Concludes k (r .nothing) (r .gives tables (λ n. wordsOf (at n)) x) (r .gives tables (λ n. wordsOf old) x)
         (r .reaching (grantedFrom source x))
     concludes =
         record {

@@ -14,7 +14,7 @@ use Rattle.leaves.proofs.Longer.{fills-whole}
 use Rattle.leaves.specs.Entries.{FilledWhole}
 use Rattle.p2m.specs.declared.Span.the-variants.{Base, Super}
 use Rattle.window_reach.specs.Granted.{region, imageRegion, deviceRegion, grantedBy, granted}
-use Rattle.updates.specs.Demand3.{Source, mapsOf, FilledFrom}
+use Rattle.updates.specs.Sources.{Source, mapsOf, FilledFrom}
 
 abbrev Same : List ℕ → List ℕ → Type 0
 Same xs ys = (p : ℕ) → getD xs p 0 ≡ getD ys p 0

@@ -21,8 +21,8 @@ use Rattle.walks.specs.Demand2.{addressesOf}
 use Rattle.walks.specs.Tabled.{S, reach}
 use Rattle.window_reach.specs.Granted.{grantedBy}
 use Rattle.updates.specs.Completing.{fullUpdate, AcceptedSource, Completes}
-use Rattle.updates.specs.Demand3.{mapsOf, grantedFrom, FilledFrom}
 use Rattle.updates.specs.SceneS.{sourceS, walkAfter, AnswersS, SceneS}
+use Rattle.updates.specs.Sources.{mapsOf, grantedFrom, FilledFrom}
 use Rattle.updates.proofs.Completing.{updates-complete}
 use Rattle.updates.proofs.Demand3.{demand-3}
 use Rattle.updates.proofs.Granting.{base-entries, sup-entries, same-granted}

@@ -5,7 +5,7 @@ use mathlib.Core.Logic.{inl, inr}
 use mathlib.Core.Path.{_≡_, sym, _∙_}
 use Rattle.manual.proofs.OneDescent.{Descent, answer, Either, Torn, torn, same, zeros}
 use Rattle.walk.specs.Descent.{Words}
-use Rattle.updates.specs.Demand3.{EachRead}
+use Rattle.updates.specs.Readers.{EachRead}
 
 pub along : {A : Type 0} {a b this that : A} → a ≡ b → Either b this that → Either a this that
 along e (inl p) = inl (e ∙ p)

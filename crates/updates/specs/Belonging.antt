@@ -4,7 +4,8 @@ use mathlib.Core.List.{List, [], _∷_, _++_}
 use mathlib.Core.Path.{_≡_}
 use lib.ListN.{length, take}
 use Rattle.refusal.specs.Table.{Outcome, accepted, refused}
-use Rattle.updates.specs.Demand3.{Source, Step, Cut, start, stepOutcome, after, cutAfter, EachStep, In}
+use Rattle.updates.specs.Cuts.{full, Step, Cut, start, answered, stepped, cutAfter, EachStep, In}
+use Rattle.updates.specs.Sources.{Source}
 
 -- how many of the steps store
 abbrev pub counting : Outcome → ℕ → ℕ
@@ -13,10 +14,10 @@ counting (refused r) n = n
 
 abbrev pub storesOf : Cut → List Step → ℕ
 storesOf c [] = 0
-storesOf c (s ∷ ss) = counting (stepOutcome c s) (storesOf (after c s) ss)
+storesOf c (s ∷ ss) = counting (answered c s) (storesOf (stepped c s) ss)
 
 abbrev pub NoneStores : Cut → List Step → Type 0
-NoneStores c steps = EachStep (λ d s. stepOutcome d s ≡ accepted → ⊥) c steps
+NoneStores c steps = EachStep (λ d s. answered d s ≡ accepted → ⊥) c steps
 
 -- an update in a list of steps: its step 0 stores; none before it does, back to an earlier one or to the list's start; and of those after it
 -- none that stores has number 0
@@ -26,22 +27,22 @@ module _ (words : List ℕ) (before idle : List Step) (zeroth : Step) (rest : Li
 
   pub record Update : Type 0 where
     pub none-stores : NoneStores (cutAfter words before (length before)) idle
-    pub number : zeroth .number ≡ 0
-    pub stores : stepOutcome found zeroth ≡ accepted
-    pub no-other : EachStep (λ d s. stepOutcome d s ≡ accepted → s .number ≡ 0 → ⊥) (after found zeroth) rest
+    pub zeroth-kind : zeroth .kind ≡ full 0
+    pub stores : answered found zeroth ≡ accepted
+    pub no-other : EachStep (λ d s. answered d s ≡ accepted → s .kind ≡ full 0 → ⊥) (stepped found zeroth) rest
 
   module _ (later : List Step) where
-    abbrev pub whole : List Step
-    whole = before ++ (idle ++ (zeroth ∷ (rest ++ later)))
+    abbrev pub allSteps : List Step
+    allSteps = before ++ (idle ++ (zeroth ∷ (rest ++ later)))
 
     -- in any list that has the update, the cuts before step 0 are its own with k 0, and those since with k the number of stores
     pub record Belong : Type 0 where
       pub before-it :
-          (n : ℕ) → n ≤ length idle → In (found .words) (zeroth .source) (cutAfter words whole (length before + n)) 0
+          (n : ℕ) → n ≤ length idle → In (found .words) (zeroth .source) (cutAfter words allSteps (length before + n)) 0
       pub since :
           (n : ℕ) → n ≤ length rest →
-          In (found .words) (zeroth .source) (cutAfter words whole (length before + (length idle + suc n)))
-          (suc (storesOf (after found zeroth) (take n rest)))
+          In (found .words) (zeroth .source) (cutAfter words allSteps (length before + (length idle + suc n)))
+          (suc (storesOf (stepped found zeroth) (take n rest)))
 
 abbrev pub CutsBelong : Type 0
 CutsBelong =

@@ -11,13 +11,15 @@ use Rattle.update.specs.Step.{stepCount}
 use Rattle.walk.specs.Descent.{wordsOf}
 use Rattle.walk.specs.Walk.{walkOf}
 use Rattle.walks.specs.Demand2.{addressesOf}
-use Rattle.updates.specs.Demand3.{Source, grantedFrom, Step, stepOutcome, cutAfter, FilledFrom, EachStep, Premises, In}
+use Rattle.updates.specs.Cuts.{full, Step, answered, cutAfter, EachStep, In}
+use Rattle.updates.specs.Demand3.{Premises}
+use Rattle.updates.specs.Sources.{Source, grantedFrom, FilledFrom}
 
 -- steps n and on, so many, to one source with two maps
 unfoldable pub stepsFrom : Source → List ℕ → List ℕ → ℕ → ℕ → List Step
 stepsFrom s base sup n zero = []
 stepsFrom s base sup n (suc count) =
-    record { number = n; source = s; base = base; sup = sup } ∷ stepsFrom s base sup (suc n) count
+    record { kind = full n; source = s; base = base; sup = sup } ∷ stepsFrom s base sup (suc n) count
 
 -- steps 0 to 6,143
 abbrev pub fullUpdate : Source → List ℕ → List ℕ → List Step
@@ -35,7 +37,7 @@ module _ (tables words : List ℕ) (steps : List Step) (s : Source) (base sup : 
 
   pub record Completes : Type 0 where
     pub never-refused :
-        EachStep (λ c t. stepOutcome c t ≡ accepted) (cutAfter words steps (length steps)) (fullUpdate s base sup)
+        EachStep (λ c t. answered c t ≡ accepted) (cutAfter words steps (length steps)) (fullUpdate s base sup)
     pub premises : Premises tables words continued
     pub cuts :
         (n : ℕ) → n ≤ stepCount → In (cutAfter words steps (length steps) .words) s (cutAfter words continued (length steps + n)) n

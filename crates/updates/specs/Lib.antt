@@ -2,4 +2,7 @@ pub mod Belonging
 pub mod Completing
 pub mod Cuts
 pub mod Demand3
+pub mod Readers
 pub mod SceneS
+pub mod Sources
+pub mod WordByWord

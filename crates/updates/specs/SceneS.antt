@@ -19,7 +19,8 @@ use Rattle.walk.specs.Walk.{walkOf}
 use Rattle.walks.specs.Demand2.{addressesOf}
 use Rattle.walks.specs.Tabled.{S, reach}
 use Rattle.updates.specs.Completing.{fullUpdate, Completes}
-use Rattle.updates.specs.Demand3.{Source, cutAfter}
+use Rattle.updates.specs.Cuts.{cutAfter}
+use Rattle.updates.specs.Sources.{Source}
 
 -- domain 3 owns frame 0, a page table L1, and frame 1, an L2: base 1 Rw, super 2 Rx
 abbrev pub sourceS : Source
