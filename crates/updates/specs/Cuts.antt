@@ -32,7 +32,7 @@ pub record Cut : Type 0 where
 abbrev pub start : List ℕ → Cut
 start words = record { words = words; k = 0; old = words; source = none }
 
--- each step gets the words that the last one left
+-- what a step answers and leaves, by its kind; each gets the words that the last one left
 abbrev pub callRows : Kind → Step → List ℕ → List Row
 callRows (full n) s words = stepRows (s .source .layout) (s .base) (s .sup) n words
 

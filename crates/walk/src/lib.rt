@@ -133,6 +133,7 @@ fn fetch_from(arena: &[u64], tables: &[u64; Layout::TABLES], named: u64, index: 
     requires { ⌜ index < entries ⌝ }
     ensures { λ r. ⌜ r ≡ fetch 0 (now (tables .entry)) (wordsOf (now (arena .entry))) named index ⌝ }
 {
+    // A slice, of which the proof knows the length: of an array behind a reference it does not.
     let listed: &[u64] = tables;
     for t in 0..Layout::TABLES {
         if listed[t] == named {
