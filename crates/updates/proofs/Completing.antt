@@ -10,7 +10,7 @@ use lib.ListN.{length, take, length-set}
 use lib.Seq.{take-length}
 use Rattle.accepted.proofs.Guarded.{arena-let-by}
 use Rattle.fields.specs.Named.{pick}
-use Rattle.layout.specs.Size.{outputLimit, arenaLength}
+use Rattle.layout.specs.Size.{boardLimit, arenaLength}
 use Rattle.refusal.specs.Table.{Outcome, accepted, refused}
 use Rattle.update.proofs.Rows.{stored}
 use Rattle.update.specs.Step.{stepCount}
@@ -71,7 +71,7 @@ module _ (tables : List ℕ) (s : Source) (base sup : List ℕ) (ok : AcceptedSo
   unfolding answered
   stores n c few long =
       stored (s .layout) base sup n (c .words)
-      (record { guarded = arena-let-by outputLimit (c .words) base sup (s .layout) long (ok .lets-by); number = few })
+      (record { guarded = arena-let-by boardLimit (c .words) base sup (s .layout) long (ok .lets-by); number = few })
 
   -- in the update that found these words, before step n
   record Going (found : List ℕ) (c : Cut) (n : ℕ) : Type 0 where

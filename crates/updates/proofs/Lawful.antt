@@ -4,13 +4,13 @@ use mathlib.Core.List.{List, _∷_}
 use mathlib.Core.Path.{_≡_}
 use Rattle.accepted.specs.Guarded.{Guarded}
 use Rattle.arena.specs.Encoded.{target}
-use Rattle.layout.specs.Size.{outputLimit, arenaLength}
+use Rattle.layout.specs.Size.{boardLimit, arenaLength}
 use Rattle.layout.specs.declared.Layout.{Layout}
 use Rattle.manual.proofs.OneDescent.{Either, Torn, walkDescent, walk-descends, manualDescent, manual-descends}
 use Rattle.manual.specs.Translation.{Machine, Access}
 use Rattle.walk.specs.Descent.{Words}
 use Rattle.walk.specs.Walk.{walkOf}
-use Rattle.walks.proofs.Demand2.{reaches-whole-whole}
+use Rattle.walks.proofs.Demand2.{reaches-whole}
 use Rattle.walks.specs.Demand2.{addressesOf}
 use Rattle.window_reach.specs.Granted.{granted}
 use Rattle.updates.specs.Readers.{EachRead, Reader, theWalk, theManual}
@@ -28,7 +28,7 @@ pub record Lawful {A : Type 0} (r : Reader A) : Type 0 where
       ((i : ℕ) → ws 2 i ≡ 0) → r .gives (l1 ∷ others) ws x ≡ r .nothing
   pub grants :
       (l : Layout) (base sup : List ℕ) (words : Words) (x : ℕ) →
-      Guarded outputLimit base sup l →
+      Guarded boardLimit base sup l →
       ((i : ℕ) → i < arenaLength → words i ≡ target l base sup i) →
       r .gives (addressesOf l) (λ n. words) x ≡ r .reaching (granted l base sup x)
 
@@ -38,7 +38,7 @@ walk-lawful =
       torn = reads-torn walkDescent walkOf walk-descends;
       same = reads-same walkDescent walkOf walk-descends;
       zeros = reads-zeros walkDescent walkOf walk-descends;
-      grants = λ l base sup words x g is. reaches-whole-whole l base sup words g is x .walks;
+      grants = λ l base sup words x g is. reaches-whole l base sup words g is x .walks;
     }
 
 pub manual-lawful : (m : Machine) (a : Access) → Lawful (theManual m a)

@@ -9,7 +9,7 @@ use Rattle.accepted.proofs.Guarded.{maps-let-by}
 use Rattle.edge.specs.Edge.{owns, counts}
 use Rattle.filling.specs.Filling.{filling, putIn, placed, onward, placedAll, row17, conflicts, started, filled}
 use Rattle.layout.specs.Layout.{layoutOf}
-use Rattle.layout.specs.Size.{outputLimit, arenaLength}
+use Rattle.layout.specs.Size.{boardLimit, arenaLength}
 use Rattle.perm.specs.declared.Perm.the-variants.{Rw}
 use Rattle.reach.specs.declared.Reached.the-variants.{Nothing}
 use Rattle.refusal.specs.Table.{accepted, first, eachFrom, pairs}
@@ -42,7 +42,7 @@ accepted-S : AcceptedSource (addressesOf S) sourceS baseS supS
 accepted-S =
     record {
       maps = from-S;
-      lets-by = maps-let-by outputLimit (replicate arenaLength 0) baseS supS S (Rows.examples .S);
+      lets-by = maps-let-by boardLimit (replicate arenaLength 0) baseS supS S (Rows.examples .S);
       same-tables = refl;
     }
 

@@ -11,7 +11,7 @@ use borrow.Author.Tests.{eqb-true, eqb-false}
 use Rattle.accepted.proofs.Guarded.{arena-guarded-facts}
 use Rattle.accepted.specs.Guarded.{Guarded}
 use Rattle.fields.specs.Named.{pick}
-use Rattle.layout.specs.Size.{outputLimit, arenaLength}
+use Rattle.layout.specs.Size.{boardLimit, arenaLength}
 use Rattle.refusal.specs.Table.{Outcome, accepted, refused, first}
 use Rattle.update.proofs.Rows.{Stores, stores}
 use Rattle.update.specs.Step.{stepCount}
@@ -32,7 +32,7 @@ pub record Begun (tables words : List ℕ) (k : ℕ) (old : List ℕ) (s : Sourc
   pub same-tables : addressesOf (s .layout) ≡ tables
   pub base : List ℕ
   pub sup : List ℕ
-  pub guarded : Guarded outputLimit base sup (s .layout)
+  pub guarded : Guarded boardLimit base sup (s .layout)
   pub maps : FilledFrom s base sup
 
 abbrev pub Known : List ℕ → Cut → Type 0
@@ -52,7 +52,7 @@ module _ (tables : List ℕ) (c : Cut) (s : Step) (a : answered c s ≡ accepted
       stored : Begun tables (wordsLeft (s .kind) accepted c s) (suc k) old (s .source)
       stored =
           let let-by = lets-by k is in
-          let facts = arena-guarded-facts outputLimit (c .words) (s .base) (s .sup) (s .source .layout) (let-by .guarded) in
+          let facts = arena-guarded-facts boardLimit (c .words) (s .base) (s .sup) (s .source .layout) (let-by .guarded) in
           let pages = base-entries (s .source) (s .base) (s .sup) (f .maps) in
           let supers = sup-entries (s .source) (s .base) (s .sup) (f .maps) in
           let same = same-target (s .source .layout) (s .base) _ (s .sup) _ pages supers in

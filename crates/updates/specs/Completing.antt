@@ -3,7 +3,7 @@ use Prim.Native.Nat.{ℕ, zero, suc, _+_, _≤_}
 use mathlib.Core.List.{List, [], _∷_, _++_}
 use mathlib.Core.Path.{_≡_}
 use lib.ListN.{length}
-use Rattle.layout.specs.Size.{outputLimit, arenaLength}
+use Rattle.layout.specs.Size.{boardLimit, arenaLength}
 use Rattle.manual.specs.Translation.{Machine, Access, translation, allowed}
 use Rattle.refusal.specs.Table.{accepted, first}
 use Rattle.rows.specs.Rows.{guardRows}
@@ -28,7 +28,7 @@ fullUpdate s base sup = stepsFrom s base sup 0 stepCount
 -- maps filled from the source, which rows 2 to 14 let by
 pub record AcceptedSource (tables : List ℕ) (s : Source) (base sup : List ℕ) : Type 0 where
   pub maps : FilledFrom s base sup
-  pub lets-by : first (guardRows outputLimit base sup (s .layout)) ≡ accepted
+  pub lets-by : first (guardRows boardLimit base sup (s .layout)) ≡ accepted
   pub same-tables : addressesOf (s .layout) ≡ tables
 
 module _ (tables words : List ℕ) (steps : List Step) (s : Source) (base sup : List ℕ) where

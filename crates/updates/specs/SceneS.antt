@@ -1,5 +1,5 @@
 -- Scene S, with edges that fill its maps: a list of steps that demand 3 speaks of, and an address that is reached.
-use Prim.Native.Nat.{ℕ}
+use Prim.Native.Nat.{ℕ, _-_}
 use mathlib.Core.Bool.{true}
 use mathlib.Core.List.{List, [], _∷_}
 use mathlib.Core.Path.{_≡_}
@@ -43,9 +43,9 @@ answerS n sup = first (stepRows S baseS sup n (replicate arenaLength 0))
 
 -- row 26's example, the step before it, and that 14 comes before 26
 pub record AnswersS : Type 0 where
-  pub past-last : answerS 6144 supS ≡ refused (row 26 [])
-  pub last-step : answerS 6143 supS ≡ accepted
-  pub fourteen-first : answerS 6144 (0 ∷ 0 ∷ 3 ∷ 0 ∷ 1 ∷ []) ≡ refused (row 14 (4 ∷ []))
+  pub past-last : answerS stepCount supS ≡ refused (row 26 [])
+  pub last-step : answerS (stepCount - 1) supS ≡ accepted
+  pub fourteen-first : answerS stepCount (0 ∷ 0 ∷ 3 ∷ 0 ∷ 1 ∷ []) ≡ refused (row 14 (4 ∷ []))
 
 pub record SceneS : Type 0 where
   pub answers : AnswersS
