@@ -1,6 +1,6 @@
 -- `target_word` meets its contract: by the table.
-use Prim.Native.Nat.{ℕ, _+_, _*_, _%_}
-use mathlib.Core.Path.{sym, ap, _∙_}
+use Prim.Native.Nat.{ℕ, _+_, _*_, _/_, _%_, _≤_}
+use mathlib.Core.Path.{_≡_, sym, ap, _∙_}
 use native.Mathlib.Omega.{arith}
 use borrow.Author.Needs.{needs}
 use denote.Ref.{now}
@@ -12,6 +12,10 @@ use Rattle.layout.specs.declared.Window.{Window}
 use Rattle.target_word.proofs.Place.{in-4, in-6}
 use Rattle.target_word.proofs.target_word.Statement.{statement}
 use Rattle.target_word.proofs.target_word.Tie as tie
+
+-- the keys of a match, one by one
+above : (k n : ℕ) → k ≤ n → (n ≡ k → ⊥) → k + 1 ≤ n
+above k n h ne = omega (arith, h, ne)
 
 l1-word-requires : tie.Need-l1-word-requires
 l1-word-requires c κs = search needs
@@ -87,8 +91,12 @@ returns-6 c =
 returns-7 : tie.Need-returns-7
 returns-7 c =
     let a = c .before .before .before .args in
-    let rest = c .match .rest in
-    sym (at-none (a .l) (now (a .base)) (now (a .sup)) (a .i) (omega (arith, rest)))
+    let r = c .match .rest in
+    let n = a .i / entries in
+    let past-2 = above 1 n (above 0 n (omega arith) (r .0 .0 .0 .0 .0 .1)) (r .0 .0 .0 .0 .1) in
+    let past-4 = above 3 n (above 2 n past-2 (r .0 .0 .0 .1)) (r .0 .0 .1) in
+    let past-6 = above 5 n (above 4 n past-4 (r .0 .1)) (r .1) in
+    sym (at-none (a .l) (now (a .base)) (now (a .sup)) (a .i) (omega (arith, past-6)))
 
 pub target-word-spec : {M : Type 1} → statement M
 target-word-spec =

@@ -6,7 +6,7 @@ use lib.ListN.{drop, List·getD-eq-default}
 use borrow.Author.Needs.{needs}
 use borrow.Author.Tests.{eq-eqb, ne-eqb}
 use denote.Ref.{now}
-use Rattle.layout.specs.Size.{entries}
+use Rattle.layout.specs.Size.{entries, tableCount}
 use Rattle.walk.specs.Descent.{wordsOf, fetchFrom, fetch}
 use Rattle.walk.proofs.Fetch.{fetch-at, fetch-end}
 use Rattle.walk.proofs.fetch_from.Statement.{statement}
@@ -18,7 +18,7 @@ Inv-loop arena tables named index listed t₀ t =
     ≡ fetchFrom (t * entries) 0 (drop t tables) (wordsOf arena) named index
 
 abbrev μ-loop : tie.MeasureT-loop
-μ-loop arena tables named index listed t₀ t = 6 - t
+μ-loop arena tables named index listed t₀ t = tableCount - t
 
 loop-holds : tie.Need-loop-holds Inv-loop μ-loop
 loop-holds c = refl
