@@ -18,6 +18,7 @@ use Rattle.layout.specs.declared.Table.{Table}
 use Rattle.layout.specs.declared.Window.{Window}
 use Rattle.refusal.proofs.All.{all-at, all-map, all-both, pairs-map}
 use Rattle.refusal.proofs.None.{none, both, test, under, each-none, pairs-none}
+use Rattle.refusal.specs.All.{All}
 use Rattle.refusal.specs.Table.{each, pairs}
 use Rattle.rows.specs.Rows.{capped, row4, row5, row6, row7, row8, row9, row10, row11, overlap, row12, pairRows, windowRows, refusalsAt}
 use Rattle.accepted.specs.Accepted.{Aligned, Nameable, Within, Disjoint, Apart, AcceptedFacts, NoInputOverlap}
@@ -149,3 +150,10 @@ accepted-facts limit l e =
       windows = all-map _ _ (within held) (windowsOf l) (all-both (λ w. row9 w ≡ []) (λ w. row10 held w ≡ []) (windowsOf l) in-slots in-reach);
       apart = pairs-map (λ w. row9 w ≡ []) _ _ apart (windowsOf l) in-slots (pairs-none pairRows (windowsOf l) (r11 .0));
     }
+
+-- a device that is absent has no length
+no-length : (n : ℕ) → ltb 0 n ≡ false → n ≡ 0
+no-length n e = let h = ltb-false 0 n e in omega (arith, h)
+
+pub absent-devices : (l : Layout) → All (λ w. w .present ≡ false → w .span ≡ 0) (devicesOf l)
+absent-devices l = (no-length (l .«device_len»), tt)

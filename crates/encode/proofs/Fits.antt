@@ -5,11 +5,15 @@ use mathlib.Core.List.{List}
 use mathlib.Core.Path.{_≡_, refl}
 use native.Mathlib.Omega.{arith}
 use lib.ListN.{length}
-use borrow.Author.Tests.{ltb-false}
+use Rattle.accepted.proofs.Accepted.{absent-devices}
+use Rattle.accepted.specs.Accepted.{Aligned, Within}
 use Rattle.accepted.specs.Guarded.{Guarded}
 use Rattle.layout.specs.Size.{entries, block, l1Span}
-use Rattle.layout.specs.Window.{deviceWindow}
+use Rattle.layout.specs.Window.{devicesOf}
 use Rattle.layout.specs.declared.Layout.{Layout}
+use Rattle.layout.specs.declared.Window.{Window}
+use Rattle.refusal.proofs.All.{all-map, all-both}
+use Rattle.refusal.specs.All.{All}
 use Rattle.encode.specs.Fits.{SupersFit, DeviceFits}
 
 super-slot :
@@ -19,6 +23,15 @@ super-slot ipa frames p aligned inside h = omega (arith, aligned, inside, h)
 
 device-slots : (ipa len : ℕ) → ipa % block ≡ 0 → ipa % l1Span + len ≤ l1Span → ipa / block % entries + len / block ≤ entries
 device-slots ipa len aligned inside = omega (arith, aligned, inside)
+
+fits :
+    {limit : ℕ} (w : Window) → (w .present ≡ true → Aligned (w .ipa)) → (w .present ≡ true → Within limit w) →
+    (w .present ≡ false → w .span ≡ 0) → DeviceFits w
+fits w aligned within absent = go (w .present) refl
+  where
+    go : (b : Bool) → w .present ≡ b → DeviceFits w
+    go true there = device-slots (w .ipa) (w .span) (aligned there) (within there .inside)
+    go false gone = let none = absent gone in omega (arith, none)
 
 module _ (limit : ℕ) (base sup : List ℕ) (l : Layout) (guarded : Guarded limit base sup l) where
   pub base-fits : length base ≤ entries
@@ -35,11 +48,17 @@ module _ (limit : ℕ) (base sup : List ℕ) (l : Layout) (guarded : Guarded lim
         backed = guarded .backed;
       }
 
-  pub device-fits : DeviceFits (deviceWindow l)
-  device-fits = go (deviceWindow l .present) refl
-    where
-      go : (b : Bool) → deviceWindow l .present ≡ b → DeviceFits (deviceWindow l)
-      go true there =
-          let layout = guarded .layout in
-          device-slots (l .«device_base») (l .«device_len») (layout .devices .0 there) (layout .windows .1 .1 .1 .0 there .inside)
-      go false absent = let none = ltb-false 0 (l .«device_len») absent in omega (arith, none)
+  abbrev Whole : Window → Type 0
+  Whole w = w .present ≡ true → Aligned (w .ipa)
+
+  abbrev Held : Window → Type 0
+  Held w = w .present ≡ true → Within limit w
+
+  abbrev Gone : Window → Type 0
+  Gone w = w .present ≡ false → w .span ≡ 0
+
+  pub devices-fit : All DeviceFits (devicesOf l)
+  devices-fit =
+      all-map (λ w. (Whole w × Held w) × Gone w) DeviceFits (λ w f. fits w (f .0 .0) (f .0 .1) (f .1)) (devicesOf l)
+      (all-both (λ w. Whole w × Held w) Gone (devicesOf l)
+      (all-both Whole Held (devicesOf l) (guarded .layout .devices) (guarded .layout .windows .1 .1 .1)) (absent-devices l))

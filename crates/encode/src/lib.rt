@@ -12,7 +12,8 @@ ghost use Rattle.arena.specs.Over.{Over};
 ghost use Rattle.encode.specs.Encoding.{Encoding};
 ghost use Rattle.encode.specs.Fits.{SupersFit, DeviceFits};
 ghost use Rattle.layout.specs.Size.{entries, boardLimit, tableCount, arenaLength};
-ghost use Rattle.layout.specs.Window.{deviceWindow};
+ghost use Rattle.layout.specs.Window.{devicesOf};
+ghost use Rattle.refusal.specs.All.{All};
 ghost use Rattle.refusal.specs.Outcome.{outcomeOf};
 
 // Rows 1 to 14 come before the first store.
@@ -39,7 +40,7 @@ fn encode_guarded(arena: &mut [u64], base: &[u8], sup: &[u8], l: Layout)
     requires { ⌜ length (now arena) ≡ arenaLength ⌝ }
     requires { ⌜ length (now base) ≤ entries ⌝ }
     requires { ⌜ SupersFit l (now sup) ⌝ }
-    requires { ⌜ DeviceFits (deviceWindow l) ⌝ }
+    requires { ⌜ All DeviceFits (devicesOf l) ⌝ }
     ensures { λ _. ⌜ Over (encoded l (now (base .entry)) (now (sup .entry))) (now (arena .entry)) (now (arena .exit)) ⌝ }
 {
     clear(arena);
@@ -73,7 +74,7 @@ fn encode_leaves(arena: &mut [u64], base: &[u8], sup: &[u8], l: Layout)
     requires { ⌜ length (now arena) ≡ arenaLength ⌝ }
     requires { ⌜ length (now base) ≤ entries ⌝ }
     requires { ⌜ SupersFit l (now sup) ⌝ }
-    requires { ⌜ DeviceFits (deviceWindow l) ⌝ }
+    requires { ⌜ All DeviceFits (devicesOf l) ⌝ }
     ensures { λ _. ⌜ Over (stored (leafRuns l (now (base .entry)) (now (sup .entry)))) (now (arena .entry)) (now (arena .exit)) ⌝ }
 {
     put_pages(arena, base, l.data_pa_base);

@@ -6,7 +6,7 @@ use Rattle.accepted.proofs.Guarded.{arena-guarded-facts}
 use Rattle.arena.proofs.Over.{over-same}
 use Rattle.refusal.specs.Outcome.{outcomeOf}
 use Rattle.encode.specs.Encoding.{left}
-use Rattle.encode.proofs.Fits.{base-fits, supers-fit, device-fits}
+use Rattle.encode.proofs.Fits.{base-fits, supers-fit, devices-fit}
 use Rattle.encode.proofs.encode_at.Statement.{statement}
 use Rattle.encode.proofs.encode_at.Tie as tie
 
@@ -39,7 +39,7 @@ encode-guarded-requires c κs =
     let let-by = sym (v .ensures) ∙ ap outcomeOf (t .enum-told .given .1) in
     let facts = arena-guarded-facts (a .limit) (now (a .arena)) (now (a .base)) (now (a .sup)) (a .l) let-by in
     let guarded = facts .1 in
-    (facts .0, (base-fits _ _ _ _ guarded, (supers-fit _ _ _ _ guarded, device-fits _ _ _ _ guarded)))
+    (facts .0, (base-fits _ _ _ _ guarded, (supers-fit _ _ _ _ guarded, devices-fit _ _ _ _ guarded)))
 
 same-length-2 : tie.Need-same-length-2
 same-length-2 c = search needs

@@ -25,7 +25,7 @@ put-device-requires c κs =
     let pages = super .before .before .before .before in
     let s = pages .before .before .before .before .before in (
       super .encode-super .ensures .long ∙ pages .put-pages .ensures .long ∙ s .pre .0,
-      (omega arith, (omega arith, subst DeviceFits (sym (c .device-window .ensures)) (s .pre .1 .1 .1))),
+      (omega arith, (omega arith, subst DeviceFits (sym (c .device-window .ensures)) (s .pre .1 .1 .1 .0))),
     )
 
 same-length : tie.Need-same-length
