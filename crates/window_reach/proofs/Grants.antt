@@ -1,11 +1,16 @@
 -- What the regions grant, window by window, where code has a copy of the window and its own test.
-use Prim.Native.Nat.{ℕ, _+_, _-_, _/_, _≤_}
+use Prim.Native.Nat.{ℕ, _+_, _-_, _/_, _≤_, _<_}
 use mathlib.Core.Bool.{Bool, true, false}
-use mathlib.Core.List.{List, _∷_}
+use mathlib.Core.List.{List, _∷_, map}
 use mathlib.Core.Path.{_≡_, sym, ap, _∙_}
+use native.Mathlib.Numerals.{add-one}
+use lib.ListN.{length, getD, drop, drop-of-length-le}
+use lib.Seq.{drop-cons}
 use Rattle.accepted.specs.Accepted.{Within}
+use Rattle.layout.specs.Window.{window}
 use Rattle.layout.specs.declared.Window.{Window}
-use Rattle.window_reach.specs.Granted.{Region, contains, byEntry, grantedIn, grantedBy}
+use Rattle.reach.specs.declared.Reached.the-variants.{Nothing}
+use Rattle.window_reach.specs.Granted.{Region, deviceRegion, contains, byEntry, grantedIn, grantedBy}
 use Rattle.window_reach.proofs.Contains.{inside}
 
 module _ (r : Region) (rs : List Region) (x : ℕ) where
@@ -33,3 +38,21 @@ module _ (r : Region) (rs : List Region) (x : ℕ) (w : Window) (same : w ≡ r 
   pub output : (limit : ℕ) → (r .window .present ≡ true → Within limit (r .window)) → b ≡ true → w .pa + w .span ≤ limit
   output limit within t =
       let i = inside (r .window) x (of-window ∙ t) in rw same (within (i .there) .output)
+
+-- the devices from a place on
+abbrev pub noWindow : Window
+noWindow = window 0 false 0 0 0
+
+module _ (ds : List Window) (k x : ℕ) where
+  abbrev pub from : List Region
+  from = map deviceRegion (drop k ds)
+
+  abbrev pub onward : List Region
+  onward = map deviceRegion (drop (k + 1) ds)
+
+  pub device-at : k < length ds → grantedBy from x ≡ grantedBy (deviceRegion (getD ds k noWindow) ∷ onward) x
+  device-at h = rw (add-one, drop-cons ds k noWindow h)
+
+  pub device-end : length ds ≤ k → grantedBy from x ≡ Nothing
+  unfolding grantedBy
+  device-end h = rw (drop-of-length-le ds h)

@@ -1,14 +1,14 @@
 -- The granted answer of an address, by document 01 ("Update"): by windows alone, with no word of a table in it.
 use Prim.Native.Nat.{ℕ, _+_, _-_, _/_}
 use mathlib.Core.Bool.{Bool, false, _&&_}
-use mathlib.Core.List.{List, [], _∷_}
+use mathlib.Core.List.{List, [], _∷_, map}
 use lib.Dec.{leb, ltb}
 use lib.ListN.{getD}
 use Rattle.desc.specs.Words.{leafAccessXn}
 use Rattle.desc.specs.declared.AccessXn.{AccessXn}
 use Rattle.fields.specs.Named.{pick, named}
 use Rattle.layout.specs.Size.{page, block}
-use Rattle.layout.specs.Window.{imageWindow, dataWindow, superWindow, deviceWindow}
+use Rattle.layout.specs.Window.{imageWindow, dataWindow, superWindow, devicesOf}
 use Rattle.layout.specs.declared.Layout.{Layout}
 use Rattle.layout.specs.declared.Window.{Window}
 use Rattle.perm.specs.Perm.{permCode}
@@ -38,11 +38,11 @@ abbrev pub superRegion : Layout → List ℕ → Region
 superRegion l sup = region (superWindow l) block (λ p. getD sup p 0) (l .«sup_wx_exempt»)
 
 -- Rw and never, as 2 is
-abbrev pub deviceRegion : Layout → Region
-deviceRegion l = region (deviceWindow l) block (λ p. permCode Rw) false
+abbrev pub deviceRegion : Window → Region
+deviceRegion w = region w block (λ p. permCode Rw) false
 
 abbrev pub regionsOf : Layout → List ℕ → List ℕ → List Region
-regionsOf l base sup = imageRegion l ∷ dataRegion l base ∷ superRegion l sup ∷ deviceRegion l ∷ []
+regionsOf l base sup = imageRegion l ∷ dataRegion l base ∷ superRegion l sup ∷ map deviceRegion (devicesOf l)
 
 abbrev pub contains : Window → ℕ → Bool
 contains w x = w .present && leb (w .ipa) x && ltb (x - w .ipa) (w .span)

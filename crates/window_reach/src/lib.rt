@@ -10,15 +10,18 @@ use reach::Walked;
 use refusal::Verdict;
 ghost use Prim.Native.Nat.{_+_, _-_, _/_, _≤_, _<_};
 ghost use mathlib.Core.Bool.{true};
+ghost use mathlib.Core.List.{map};
 ghost use mathlib.Core.Path.{_≡_};
 ghost use lib.ListN.{getD};
+ghost use Rattle.accepted.specs.Accepted.{Within};
 ghost use Rattle.accepted.specs.Guarded.{Guarded};
 ghost use Rattle.layout.specs.Size.{boardLimit};
 ghost use Rattle.reach.specs.Reach.{toldOf};
+ghost use Rattle.refusal.specs.All.{All};
 ghost use Rattle.refusal.specs.Table.{first};
 ghost use Rattle.refusal.specs.Told.{after};
 ghost use Rattle.rows.specs.Rows.{guardRows};
-ghost use Rattle.window_reach.specs.Granted.{contains, byEntry, granted, reachAt};
+ghost use Rattle.window_reach.specs.Granted.{deviceRegion, contains, byEntry, grantedBy, granted, reachAt};
 
 // Rows 2 to 14 come first: the sums below serve accepted layouts alone.
 pub fn window_reach(base: &[u8], sup: &[u8], l: Layout, ipa: u64) -> Walked
@@ -54,9 +57,18 @@ fn reach_in(base: &[u8], sup: &[u8], l: Layout, ipa: u64) -> Reached
         let entry = entry_of(sup, supers, ipa, Layout::BLOCK_SIZE);
         return grant(supers, ipa, l.sup_wx_exempt, entry);
     }
-    let device = ws[3];
-    if inside(device, ipa) {
-        return grant(device, ipa, false, 2);
+    reach_device(l.devices(), ipa)
+}
+
+fn reach_device(ds: [Window; Layout::DEVICES], ipa: u64) -> Reached
+    requires { ⌜ All (λ w. w .present ≡ true → Within boardLimit w) ds ⌝ }
+    ensures { λ r. ⌜ r ≡ grantedBy (map deviceRegion ds) ipa ⌝ }
+{
+    for i in 0..Layout::DEVICES {
+        let w = ds[i];
+        if inside(w, ipa) {
+            return grant(w, ipa, false, 2);
+        }
     }
     Reached::Nothing
 }

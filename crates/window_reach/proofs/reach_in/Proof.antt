@@ -1,16 +1,18 @@
 -- `reach_in` meets its contract: an address that a window does not contain is left to the windows after it.
 use Prim.Native.Nat.{ℕ, _+_, _-_}
-use mathlib.Core.Bool.{false}
-use mathlib.Core.List.{List, [], _∷_}
-use mathlib.Core.Path.{_≡_, _∙_, sym, ap}
+use mathlib.Core.Bool.{true, false}
+use mathlib.Core.List.{List, [], _∷_, map}
+use mathlib.Core.Path.{_≡_, _∙_, sym, ap, subst}
 use native.Mathlib.Omega.{arith}
 use lib.ListN.{getD}
 use borrow.Author.Needs.{needs}
 use denote.Ref.{now}
+use Rattle.accepted.specs.Accepted.{Within}
 use Rattle.layout.proofs.Counted.{counted, always}
 use Rattle.layout.specs.Size.{boardLimit}
-use Rattle.layout.specs.Window.{window, windowsWith, windowsOf}
+use Rattle.layout.specs.Window.{window, devicesOf, windowsWith, windowsOf}
 use Rattle.layout.specs.declared.Window.{Window}
+use Rattle.refusal.specs.All.{All}
 use Rattle.window_reach.specs.Granted.{Region, imageRegion, dataRegion, superRegion, deviceRegion, byEntry, grantedBy, granted}
 use Rattle.window_reach.proofs.Grants.{here, past, output}
 use Rattle.window_reach.proofs.reach_in.Statement.{statement}
@@ -19,7 +21,7 @@ use Rattle.window_reach.proofs.reach_in.Tie as tie
 -- the regions from a window on
 
 abbrev from-device : tie.Start → List Region
-from-device s = deviceRegion (s .args .l) ∷ []
+from-device s = map deviceRegion (devicesOf (s .args .l))
 
 abbrev from-super : tie.Start → List Region
 from-super s = superRegion (s .args .l) (now (s .args .sup)) ∷ from-device s
@@ -41,9 +43,6 @@ ws-2 c = ws-1 (c .before .before .before)
 
 abbrev ws-3 : tie.After-inside3 → tie.After-windows-of
 ws-3 c = ws-2 (c .before .before .before)
-
-abbrev ws-4 : tie.After-inside4 → tie.After-windows-of
-ws-4 c = ws-3 (c .before .before .before)
 
 abbrev at-counted : tie.After-windows-of → tie.After-counted
 at-counted c = c .before .before
@@ -198,38 +197,22 @@ returns-4 c =
     ∙ ap (byEntry (win v 2 .pa + (s .args .ipa - win v 2 .ipa)) (r .exempt)) (e .entry-of2 .ensures)
     ∙ sym (past-data (i .before .before) ∙ here r (from-device s) (s .args .ipa) (win v 2) (is v 2) (i .inside3 .result) (i .inside3 .ensures) (t .if3 .taken))
 
-array-copy-out-device : tie.Need-array-copy-out-device
-array-copy-out-device c = search needs
+devices-requires : tie.Need-devices-requires
+devices-requires c κs = search needs
 
-inside-requires-4 : tie.Need-inside-requires-4
-inside-requires-4 c κs = search needs
-
-grant-requires-4 : tie.Need-grant-requires-4
-grant-requires-4 c κs =
-    let i = c .before in
-    let s = start (ws-4 i) in
-    let v = ws-4 i in
-    let within = s .pre .layout .windows .1 .1 .1 .0 in (
-      sym (i .inside4 .ensures) ∙ c .if4 .taken,
-      output (deviceRegion (s .args .l)) [] (s .args .ipa) (win v 3) (is v 3) (i .inside4 .result) (i .inside4 .ensures) boardLimit within (c .if4 .taken),
-    )
+reach-device-requires : tie.Need-reach-device-requires
+reach-device-requires c κs =
+    let s = start (ws-3 (c .before .before)) in
+    subst (All (λ (w : Window). w .present ≡ true → Within boardLimit w)) (sym (c .devices .ensures)) (s .pre .layout .windows .1 .1 .1)
 
 returns-5 : tie.Need-returns-5
 returns-5 c =
-    let t = c .before in
-    let i = t .before in
-    let s = start (ws-4 i) in
-    let v = ws-4 i in
-    c .grant4 .ensures
-    ∙ sym (past-super (i .before .before) ∙ here (deviceRegion (s .args .l)) [] (s .args .ipa) (win v 3) (is v 3) (i .inside4 .result) (i .inside4 .ensures) (t .if4 .taken))
-
-returns-6 : tie.Need-returns-6
-unfolding grantedBy
-returns-6 c =
-    let i = c .before in
-    let s = start (ws-4 i) in
-    let v = ws-4 i in
-    sym (past-super (i .before .before) ∙ past (deviceRegion (s .args .l)) [] (s .args .ipa) (win v 3) (is v 3) (i .inside4 .result) (i .inside4 .ensures) (c .if4 .left))
+    let d = c .before in
+    let e = d .before in
+    let s = start (ws-3 (e .before)) in
+    c .reach-device .ensures
+    ∙ ap (λ ds. grantedBy (map deviceRegion ds) (s .args .ipa)) (d .devices .ensures)
+    ∙ sym (past-super e)
 
 pub reach-in-spec : {M : Type 1} → statement M
 reach-in-spec =
@@ -254,8 +237,6 @@ reach-in-spec =
     entry-of-requires-2
     grant-requires-3
     returns-4
-    array-copy-out-device
-    inside-requires-4
-    grant-requires-4
-    returns-5
-    returns-6)
+    devices-requires
+    reach-device-requires
+    returns-5)
