@@ -13,7 +13,7 @@ use Rattle.accepted.specs.Guarded.{Guarded}
 use Rattle.arena.proofs.At.{l1At, dataAt, at-1, at-3, run-2, run-4, run-5, run-6}
 use Rattle.arena.proofs.Runs.{table-of, index-of, run-inside}
 use Rattle.arena.specs.Encoded.{Run, pageAt, tableOf, indexOf, wordAt, pageRun, superRun, deviceRun, imageRun, target}
-use Rattle.arena.specs.Word.{tableTo, imageTo}
+use Rattle.arena.specs.Word.{tableTo, imageTo, deviceTo}
 use Rattle.decode.specs.Emitted.{Output}
 use Rattle.fields.specs.Named.{pick}
 use Rattle.layout.specs.Area.{area, areaHas}
@@ -27,7 +27,7 @@ use Rattle.layout.specs.declared.Table.{Table}
 use Rattle.layout.specs.declared.Window.{Window}
 use Rattle.manual.specs.Translation.{translation}
 use Rattle.perm.specs.Perm.{permCode}
-use Rattle.perm.specs.declared.Perm.the-variants.{Rx}
+use Rattle.perm.specs.declared.Perm.the-variants.{Rw, Rx}
 use Rattle.reach.specs.declared.Reached.{Reached}
 use Rattle.reach.specs.declared.Reached.the-variants.{Nothing}
 use Rattle.refusal.proofs.All.{all-at, all-map, all-always, pairs-map}
@@ -73,6 +73,24 @@ record Blocks (k : ℕ) (r : Region) (u : Run) : Type 0 where
   counts : u .count ≡ r .window .span / block
   entry : (p : ℕ) → p < r .window .span / block → Entry BlockLeaf (u .word p) (r .window .pa + p * block) (r .exempt) (r .entry p)
 
+-- a device maps an address to itself
+device-blocks :
+    (k : ℕ) (w : Window) → w .pa ≡ w .ipa → Within boardLimit w → Aligned (w .ipa) → Aligned (w .span) →
+    Blocks k (deviceRegion w) (deviceRun (1 + k) w)
+device-blocks k w itself within aligned whole =
+    record {
+      pieces = refl;
+      within = within;
+      aligned = aligned;
+      whole = whole;
+      table = refl;
+      starts = refl;
+      counts = refl;
+      entry = λ p h.
+          subst (λ (n : ℕ). Entry BlockLeaf (deviceTo (w .ipa + p * block)) (n + p * block) false (permCode Rw)) (sym itself)
+          (device-entry (w .ipa + p * block) (block-output (w .ipa) (w .span) p aligned (omega (arith, itself, within .output)) h));
+    }
+
 module _ (l : Layout) (base sup : List ℕ) (g : Guarded boardLimit base sup l) where
   -- each region, and the table that its level 1 word names
   abbrev parts : List Part
@@ -80,7 +98,7 @@ module _ (l : Layout) (base sup : List ℕ) (g : Guarded boardLimit base sup l) 
       part (imageRegion l) (l .«l2_code_pa»)
       ∷ part (dataRegion l base) (l .«l2_data_pa»)
       ∷ part (superRegion l sup) (l .«l2_sup_pa»)
-      ∷ part (deviceRegion l) (l .«l2_dev_pa»)
+      ∷ part (deviceRegion (deviceWindow l)) (l .«l2_dev_pa»)
       ∷ []
 
   abbrev image : Window
@@ -119,21 +137,6 @@ module _ (l : Layout) (base sup : List ℕ) (g : Guarded boardLimit base sup l) 
         entry = λ p h.
             block-entry (l .«sup_pa_base» + p * block) (getD sup p 0) (l .«sup_wx_exempt»)
             (block-output (l .«sup_pa_base») (frames * block) p (g .layout .sup-pa) (w .output) h);
-      }
-
-  device-blocks : deviceWindow l .present ≡ true → Blocks 5 (deviceRegion l) (deviceRun 6 (deviceWindow l))
-  device-blocks there =
-      let w = g .layout .windows .1 .1 .1 .0 there in
-      let a = g .layout .devices .0 there in
-      record {
-        pieces = refl;
-        within = w;
-        aligned = a;
-        whole = g .layout .lengths .0;
-        table = refl;
-        starts = refl;
-        counts = refl;
-        entry = λ p h. device-entry (l .«device_base» + p * block) (block-output (l .«device_base») (l .«device_len») p a (w .output) h);
       }
 
   module _ (x : ℕ) (low : x < inputLimit) where
@@ -188,6 +191,17 @@ module _ (l : Layout) (base sup : List ℕ) (g : Guarded boardLimit base sup l) 
           block-window addresses words x boardLimit r (h .0) (b .within) (b .pieces) (b .aligned) (b .whole) low (sym (eqb-true _ _ (h .1)))
           (tableTo address) address at1 named k u (b .table) (b .starts) (b .counts) (run-of 1 u is) (b .entry)
 
+      in-device :
+          (w : Window) →
+          w .pa ≡ w .ipa →
+          (w .present ≡ true → Within boardLimit w) →
+          (w .present ≡ true → Aligned (w .ipa)) →
+          Aligned (w .span) →
+          ((i : ℕ) → tableOf i ≡ 1 + k → target l base sup i ≡ wordAt (deviceRun (1 + k) w) i) →
+          In-slot (part (deviceRegion w) address) → Leads (In x (deviceRegion w)) (tableTo address)
+      in-device w itself within aligned whole is =
+          in-blocks (deviceRegion w) (deviceRun (1 + k) w) (λ there. device-blocks k w itself (within there) (aligned there) whole) is
+
     table-1 : Reads 2 (l .«l1_pa») (l1At l (l1Slot x))
     table-1 out =
         word-of 0 (omega arith) refl 2 out
@@ -231,6 +245,7 @@ module _ (l : Layout) (base sup : List ℕ) (g : Guarded boardLimit base sup l) 
 
     seen : Sees (granted l base sup x)
     seen =
+        let devices = g .layout .windows .1 .1 .1 in
         seen-in x (l1Slot x) Leads parts 0
         (pairs-map (λ p. Unit) _ _ (λ p q a b. alone p q) parts (all-always _ (λ p. tt) parts) (g .layout .apart))
         (all-map _ _ (λ p within. not-here boardLimit (p .region .window) x within) parts (g .layout .windows)) (
@@ -239,7 +254,7 @@ module _ (l : Layout) (base sup : List ℕ) (g : Guarded boardLimit base sup l) 
             in-data,
             (
               in-blocks 4 (omega arith) refl (superRegion l sup) (superRun l sup) (λ e. super-blocks) (run-5 l base sup),
-              (in-blocks 5 (omega arith) refl (deviceRegion l) (deviceRun 6 (deviceWindow l)) device-blocks (run-6 l base sup), tt),
+              (in-device 5 (omega arith) refl (deviceWindow l) refl (devices .0) (g .layout .devices .0) (g .layout .lengths .0) (run-6 l base sup), tt),
             ),
           ),
         )
