@@ -1,14 +1,14 @@
 -- Maps that are filled from one source, at any lengths, have the same entries; and entries alone decide what is stored and granted.
 use Prim.Native.Nat.{ℕ, _+_, _*_}
 use mathlib.Core.Bool.{false}
-use mathlib.Core.List.{List, [], _∷_}
+use mathlib.Core.List.{List, _∷_, map}
 use mathlib.Core.Path.{_≡_, sym, ap, ap₂, fun-ext, _∙_}
 use lib.ListN.{getD}
 use Rattle.arena.specs.Encoded.{pageAt, superAt, leafRuns, encoded, target}
 use Rattle.arena.specs.Word.{leafFor, pageTo, blockTo}
 use Rattle.filling.specs.Filling.{Filling}
 use Rattle.layout.specs.Size.{page, block}
-use Rattle.layout.specs.Window.{dataWindow, superWindow}
+use Rattle.layout.specs.Window.{dataWindow, superWindow, devicesOf}
 use Rattle.layout.specs.declared.Layout.{Layout}
 use Rattle.leaves.proofs.Longer.{fills-whole}
 use Rattle.leaves.specs.Entries.{FilledWhole}
@@ -45,4 +45,12 @@ module _ (l : Layout) (base base′ sup sup′ : List ℕ) (b : Same base base�
 
   pub same-granted : (x : ℕ) → granted l base sup x ≡ granted l base′ sup′ x
   same-granted x =
-      ap₂ (λ (d r : ℕ → ℕ). grantedBy (imageRegion l ∷ region (dataWindow l) page d false ∷ region (superWindow l) block r (l .«sup_wx_exempt») ∷ deviceRegion l ∷ []) x) (fun-ext b) (fun-ext u)
+      ap₂
+      (λ (d r : ℕ → ℕ).
+      grantedBy
+      (imageRegion l
+      ∷ region (dataWindow l) page d false
+      ∷ region (superWindow l) block r (l .«sup_wx_exempt»)
+      ∷ map deviceRegion (devicesOf l)) x)
+      (fun-ext b)
+      (fun-ext u)

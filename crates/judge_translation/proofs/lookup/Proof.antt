@@ -6,7 +6,7 @@ use lib.ListN.{drop}
 use borrow.Author.Needs.{needs}
 use borrow.Author.Tests.{eq-eqb, ne-eqb}
 use denote.Ref.{now}
-use Rattle.layout.specs.Size.{entries}
+use Rattle.layout.specs.Size.{entries, tableCount}
 use Rattle.walk.proofs.Fetch.{fetch-at, fetch-end}
 use Rattle.walk.specs.Descent.{wordsOf, fetchFrom, fetch}
 use Rattle.judge_translation.specs.Answer.{elsewhereOf}
@@ -19,7 +19,7 @@ Inv-loop arena tables places named index t₀ t =
     ≡ fetchFrom (t * entries) (elsewhereOf places named index) (drop t tables) (wordsOf arena) named index
 
 abbrev μ-loop : tie.MeasureT-loop
-μ-loop arena tables places named index t₀ t = 6 - t
+μ-loop arena tables places named index t₀ t = tableCount - t
 
 loop-holds : tie.Need-loop-holds Inv-loop μ-loop
 loop-holds c = refl

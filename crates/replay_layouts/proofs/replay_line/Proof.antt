@@ -1,14 +1,15 @@
--- `replay_line` is safe and ends: a line has 17 numbers.
+-- `replay_line` is safe and ends: a line has the numbers of a layout.
 use Prim.Native.Nat.{_≤_, _-_}
 use borrow.Author.Needs.{needs}
+use Rattle.layout.specs.Layout.{numberCount}
 use Rattle.replay_layouts.proofs.replay_line.Statement.{statement}
 use Rattle.replay_layouts.proofs.replay_line.Tie as tie
 
 abbrev Inv-loop : tie.InvT-loop
-Inv-loop x₀ i₀ x i = i ≤ 17
+Inv-loop x₀ i₀ x i = i ≤ numberCount
 
 abbrev μ-loop : tie.MeasureT-loop
-μ-loop x₀ i₀ x i = 17 - i
+μ-loop x₀ i₀ x i = numberCount - i
 
 loop-holds : tie.Need-loop-holds Inv-loop μ-loop
 loop-holds c = search needs
