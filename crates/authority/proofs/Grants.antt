@@ -6,7 +6,7 @@ use mathlib.Core.Path.{_≡_, refl, ap, _∙_}
 use lib.Dec.{eqb}
 use Rattle.edge.specs.Grant.{covers}
 use Rattle.edge.specs.declared.Grant.{Grant}
-use Rattle.authority.specs.Authority.{granted}
+use Rattle.authority.specs.Authority.{hasGrant}
 
 or-false : (a : Bool) → (a || false) ≡ a
 or-false true = refl
@@ -18,12 +18,12 @@ or-assoc false b c = refl
 
 pub granted-more :
     (gs : List Grant) (g : Grant) (owner dom m : ℕ) (w : Bool) →
-    granted (gs ++ g ∷ []) owner dom m w ≡ (granted gs owner dom m w || covers owner dom m w g)
-unfolding granted
+    hasGrant (gs ++ g ∷ []) owner dom m w ≡ (hasGrant gs owner dom m w || covers owner dom m w g)
+unfolding hasGrant
 granted-more [] g owner dom m w = or-false (covers owner dom m w g)
 granted-more (x ∷ gs) g owner dom m w =
     ap (λ b. covers owner dom m w x || b) (granted-more gs g owner dom m w)
-    ∙ or-assoc (covers owner dom m w x) (granted gs owner dom m w) (covers owner dom m w g)
+    ∙ or-assoc (covers owner dom m w x) (hasGrant gs owner dom m w) (covers owner dom m w g)
 
 -- a grant that covers writing covers reading
 weaker : (a b c w : Bool) → (a && b && c && (false || w)) ≡ true → (a && b && c && (true || w)) ≡ true
@@ -40,8 +40,8 @@ either false b false b′ f g e = g e
 
 pub reading :
     (grants : List Grant) (owner dom m : ℕ) →
-    granted grants owner dom m true ≡ true → granted grants owner dom m false ≡ true
-unfolding granted covers
+    hasGrant grants owner dom m true ≡ true → hasGrant grants owner dom m false ≡ true
+unfolding hasGrant covers
 reading [] owner dom m e = e
 reading (g ∷ gs) owner dom m e =
     either _ _ _ _

@@ -20,7 +20,7 @@ use Rattle.refusal.specs.Outcome.{rowOf, refuse}
 use Rattle.refusal.specs.Table.{refused, first}
 use Rattle.refusal.specs.declared.Refusal.the-variants.{UnauthorizedMapping, WriteEscalation}
 use Rattle.refusal.specs.declared.Refusal.{Refusal}
-use Rattle.authority.specs.Authority.{granted, reaches, ownerRows, reachRows}
+use Rattle.authority.specs.Authority.{hasGrant, reaches, ownerRows, reachRows}
 use Rattle.authority.specs.Widest.{widest, widestAt, asked}
 use Rattle.authority.proofs.Grants.{reading}
 
@@ -38,7 +38,7 @@ module _ (grants : List Grant) (dom m : ℕ) (p : Perm) where
   reads true Nobody e = e
   reads true (Domain o) e = go (eqb o dom) e
     where
-      go : (own : Bool) → (own || granted grants o dom m true) ≡ true → (own || granted grants o dom m false) ≡ true
+      go : (own : Bool) → (own || hasGrant grants o dom m true) ≡ true → (own || hasGrant grants o dom m false) ≡ true
       go true e = refl
       go false e = reading grants o dom m e
 

@@ -18,7 +18,7 @@ use Rattle.p2m.specs.declared.Owner.{Owner}
 use Rattle.p2m.specs.declared.Owner.the-variants.{Domain, Nobody}
 use Rattle.perm.specs.Perm.{permCode}
 use Rattle.perm.specs.declared.Perm.the-variants.{Rw}
-use Rattle.authority.specs.Authority.{granted, reaches}
+use Rattle.authority.specs.Authority.{hasGrant, reaches}
 use Rattle.authority.specs.Widest.{widest, widestAt, covered, widestBy}
 use Rattle.authority.proofs.Grants.{or-assoc, granted-more}
 
@@ -43,7 +43,7 @@ wider false false false false = refl
 
 module _ (frames : List (List ℕ)) (dom m : ℕ) where
   own : widestAt frames [] dom m ≡ pick (ownedBy dom (ownerOf frames m)) (permCode Rw) 0
-  unfolding widestAt granted
+  unfolding widestAt hasGrant
   own = go (ownerOf frames m)
     where
       by-test : (b : Bool) → widest (b || false) (b || false) ≡ pick b (permCode Rw) 0
@@ -79,7 +79,7 @@ module _ (frames : List (List ℕ)) (dom m : ℕ) where
             reaches (gs ++ g ∷ []) dom m w o ≡ (reaches gs dom m w o || covered g dom m w o)
         reached-more w (Domain o) =
             ap (λ b. eqb o dom || b) (granted-more gs g o dom m w)
-            ∙ or-assoc (eqb o dom) (granted gs o dom m w) (covers o dom m w g)
+            ∙ or-assoc (eqb o dom) (hasGrant gs o dom m w) (covers o dom m w g)
         reached-more w Nobody = refl
 
     pub elsewhere : g .frame ≢ m → widestBy frames dom m g ≡ 0

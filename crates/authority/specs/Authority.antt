@@ -18,13 +18,13 @@ use Rattle.refusal.specs.declared.Refusal.the-variants.{UnauthorizedMapping, Wr
 use Rattle.rows.specs.Rows.{readRows}
 
 -- any one grant counts
-unfoldable pub granted : List Grant → ℕ → ℕ → ℕ → Bool → Bool
-granted [] owner dom m writes = false
-granted (g ∷ gs) owner dom m writes = covers owner dom m writes g || granted gs owner dom m writes
+unfoldable pub hasGrant : List Grant → ℕ → ℕ → ℕ → Bool → Bool
+hasGrant [] owner dom m writes = false
+hasGrant (g ∷ gs) owner dom m writes = covers owner dom m writes g || hasGrant gs owner dom m writes
 
 -- the domain owns the frame, or its owner grants it; a frame that nobody owns is nobody's to grant
 abbrev pub reaches : List Grant → ℕ → ℕ → Bool → Owner → Bool
-reaches grants dom m writes (Domain owner) = eqb owner dom || granted grants owner dom m writes
+reaches grants dom m writes (Domain owner) = eqb owner dom || hasGrant grants owner dom m writes
 reaches grants dom m writes Nobody = false
 
 -- row 23: a mapped frame that the domain may not reach

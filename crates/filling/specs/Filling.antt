@@ -88,13 +88,13 @@ row17 sup m entry = refuseIf (nonzero entry && nonzero (getD sup m 0)) 17 (m ∷
 unfoldable pub conflicts : Filling → Filling
 conflicts f = filling (f .base) (f .sup) (first (eachFrom (row17 (f .sup)) 0 (f .base)))
 
-abbrev pub cleared : ℕ → ℕ → Filling
-cleared n m = filling (replicate n 0) (replicate m 0) accepted
+abbrev pub clearedMaps : ℕ → ℕ → Filling
+clearedMaps n m = filling (replicate n 0) (replicate m 0) accepted
 
 -- lent maps: row 2 comes first and changes nothing; else both are cleared
 unfoldable pub started : List ℕ → List ℕ → Filling
 started base sup =
-    onward (λ f. cleared (length base) (length sup)) (filling base sup (first (lengthRows base sup)))
+    onward (λ f. clearedMaps (length base) (length sup)) (filling base sup (first (lengthRows base sup)))
 
 -- of lent maps: started, the edges in order, and 17 last
 unfoldable pub filled : List (List ℕ) → ℕ → List Edge → List ℕ → List ℕ → Filling
@@ -102,4 +102,4 @@ filled frames dom edges base sup = onward conflicts (placedAll frames dom edges 
 
 -- the same from cleared maps of these lengths
 unfoldable pub filledInto : List (List ℕ) → ℕ → List Edge → ℕ → ℕ → Filling
-filledInto frames dom edges n m = onward conflicts (placedAll frames dom edges (cleared n m))
+filledInto frames dom edges n m = onward conflicts (placedAll frames dom edges (clearedMaps n m))

@@ -8,7 +8,7 @@ use lib.Dec.{eqb}
 use lib.ListN.{getD}
 use borrow.Author.Tests.{eqb-true, eq-eqb, not-false}
 use Rattle.authority.proofs.Owned.{allowed, unmapped, of-owner}
-use Rattle.authority.specs.Authority.{granted, reaches, row23, ownerRows, reachRows, authorityRows}
+use Rattle.authority.specs.Authority.{hasGrant, reaches, row23, ownerRows, reachRows, authorityRows}
 use Rattle.edge.specs.Grant.{covers}
 use Rattle.edge.specs.declared.Grant.{Grant}
 use Rattle.p2m.specs.Frame.{ownerOf}
@@ -54,16 +54,16 @@ covered false x f = refl
 -- a grant that covers the access
 
 module _ (owner dom m : ℕ) (w : Bool) where
-  in-list : (grants : List Grant) → granted grants owner dom m w ≡ true → Granted grants owner dom m w
-  unfolding granted covers
+  in-list : (grants : List Grant) → hasGrant grants owner dom m w ≡ true → Granted grants owner dom m w
+  unfolding hasGrant covers
   in-list [] e = absurd (false≢true e)
   in-list (g ∷ gs) e = go (covers owner dom m w g) refl e (in-list gs)
     where
       go :
           (b : Bool) →
           covers owner dom m w g ≡ b →
-          (b || granted gs owner dom m w) ≡ true →
-          (granted gs owner dom m w ≡ true → Granted gs owner dom m w) →
+          (b || hasGrant gs owner dom m w) ≡ true →
+          (hasGrant gs owner dom m w ≡ true → Granted gs owner dom m w) →
           Granted (g ∷ gs) owner dom m w
       go true c h rest =
           let p = parts (eqb (g .frame) m) (eqb (g .grantee) dom) (eqb (g .grantor) owner) (not w || g .writable) c in
@@ -94,12 +94,12 @@ module _ (owner dom m : ℕ) (w : Bool) where
 
   found :
       (grants : List Grant) (g : Grant) →
-      List·Memᴰ g grants → covers owner dom m w g ≡ true → granted grants owner dom m w ≡ true
-  unfolding granted
+      List·Memᴰ g grants → covers owner dom m w g ≡ true → hasGrant grants owner dom m w ≡ true
+  unfolding hasGrant
   found (x ∷ xs) g (List·Memᴰ·head q) c = rw (ap (covers owner dom m w) (sym q) ∙ c)
-  found (x ∷ xs) g (List·Memᴰ·tail t) c = or-right (covers owner dom m w x) (granted xs owner dom m w) (found xs g t c)
+  found (x ∷ xs) g (List·Memᴰ·tail t) c = or-right (covers owner dom m w x) (hasGrant xs owner dom m w) (found xs g t c)
 
-  from-list : (grants : List Grant) → Granted grants owner dom m w → granted grants owner dom m w ≡ true
+  from-list : (grants : List Grant) → Granted grants owner dom m w → hasGrant grants owner dom m w ≡ true
   from-list grants r =
       found grants (r .grant) (r .listed) (covers-it (r .grant) (r .grantor) (r .grantee) (r .frame) (r .enough))
 
@@ -111,7 +111,7 @@ module _ (frames : List (List ℕ)) (grants : List Grant) (dom m : ℕ) (w : Boo
       by :
           (o : ℕ) (own : Bool) →
           ownerOf frames m ≡ Domain o →
-          eqb o dom ≡ own → (own || granted grants o dom m w) ≡ true → MayReach frames grants dom m w
+          eqb o dom ≡ own → (own || hasGrant grants o dom m w) ≡ true → MayReach frames grants dom m w
       by o true t q e = inl (t ∙ ap Domain (eqb-true o dom q))
       by o false t q e = inr (record { owner = o; owns = t; grants-it = in-list o dom m w grants e })
 

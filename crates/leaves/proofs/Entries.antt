@@ -13,7 +13,7 @@ use Rattle.exact.specs.Exact.{isSpan, lands, afterEdge, afterEdges, expected}
 use Rattle.fields.specs.Named.{pick}
 use Rattle.filling.proofs.Onward.{on, off}
 use Rattle.filling.proofs.Placed.{place-none, place-next, place-stop}
-use Rattle.filling.specs.Filling.{Filling, Put, put, mapOf, putIn, inMap, putUnder, placed, placedAll, conflicts, cleared, filledInto}
+use Rattle.filling.specs.Filling.{Filling, Put, put, mapOf, putIn, inMap, putUnder, placed, placedAll, conflicts, clearedMaps, filledInto}
 use Rattle.p2m.specs.Frame.{kindAt, spanOfKind}
 use Rattle.p2m.specs.declared.Span.{Span}
 use Rattle.p2m.specs.declared.Span.the-variants.{Base, Super}
@@ -108,19 +108,19 @@ zero-at zero p = refl
 zero-at (suc n) zero = refl
 zero-at (suc n) (suc p) = zero-at n p
 
-from-cleared : (s : Span) (n m p : ℕ) → getD (mapOf s (cleared n m)) p 0 ≡ 0
+from-cleared : (s : Span) (n m p : ℕ) → getD (mapOf s (clearedMaps n m)) p 0 ≡ 0
 from-cleared Base n m p = zero-at n p
 from-cleared Super n m p = zero-at m p
 
 module _ (frames : List (List ℕ)) (dom : ℕ) (edges : List Edge) (n m : ℕ) where
   -- an accepted filling placed all edges, and its maps are theirs
   pub all-placed :
-      filledInto frames dom edges n m .outcome ≡ accepted → placedAll frames dom edges (cleared n m) .outcome ≡ accepted
+      filledInto frames dom edges n m .outcome ≡ accepted → placedAll frames dom edges (clearedMaps n m) .outcome ≡ accepted
   unfolding filledInto
   all-placed a = go (g .outcome) refl
     where
       g : Filling
-      g = placedAll frames dom edges (cleared n m)
+      g = placedAll frames dom edges (clearedMaps n m)
 
       go : (o : Outcome) → g .outcome ≡ o → g .outcome ≡ accepted
       go accepted e = e
@@ -129,17 +129,17 @@ module _ (frames : List (List ℕ)) (dom : ℕ) (edges : List Edge) (n m : ℕ) 
 
   pub placed-maps :
       (s : Span) → filledInto frames dom edges n m .outcome ≡ accepted →
-      mapOf s (filledInto frames dom edges n m) ≡ mapOf s (placedAll frames dom edges (cleared n m))
+      mapOf s (filledInto frames dom edges n m) ≡ mapOf s (placedAll frames dom edges (clearedMaps n m))
   unfolding filledInto
   placed-maps s a =
-      let f = placedAll frames dom edges (cleared n m) in
+      let f = placedAll frames dom edges (clearedMaps n m) in
       ap (mapOf s) (on conflicts f (all-placed a)) ∙ held s f
 
   pub placed-entry :
-      placedAll frames dom edges (cleared n m) .outcome ≡ accepted →
-      (s : Span) (p : ℕ) → getD (mapOf s (placedAll frames dom edges (cleared n m))) p 0 ≡ expected frames dom s edges p
+      placedAll frames dom edges (clearedMaps n m) .outcome ≡ accepted →
+      (s : Span) (p : ℕ) → getD (mapOf s (placedAll frames dom edges (clearedMaps n m))) p 0 ≡ expected frames dom s edges p
   placed-entry a s p =
-      all frames dom s p edges (cleared n m) refl a ∙ ap (λ k. afterEdges frames dom s p k edges) (from-cleared s n m p)
+      all frames dom s p edges (clearedMaps n m) refl a ∙ ap (λ k. afterEdges frames dom s p k edges) (from-cleared s n m p)
 
 pub entries : Entries
 entries frames dom edges n m a s p =

@@ -11,7 +11,7 @@ use Rattle.edge.specs.declared.Edge.{Edge}
 use Rattle.exact.specs.Exact.{lands, afterEdge, afterEdges, expected, row25, comparedRows, exactRows}
 use Rattle.fields.specs.Named.{pick}
 use Rattle.filling.proofs.Filled.{fitting, too-long}
-use Rattle.filling.specs.Filling.{Filling, filling, mapOf, putIn, inMap, putUnder, placed, onward, unless, placedAll, cleared, filledInto, filled}
+use Rattle.filling.specs.Filling.{Filling, filling, mapOf, putIn, inMap, putUnder, placed, onward, unless, placedAll, clearedMaps, filledInto, filled}
 use Rattle.layout.specs.Size.{entries as mapEntries}
 use Rattle.lent.proofs.Codes.{no-row3}
 use Rattle.p2m.specs.Frame.{kindAt, spanCode, spanOfKind}
@@ -136,7 +136,7 @@ module _ (frames : List (List ℕ)) (dom : ℕ) (edges : List Edge) (base sup : 
 
   cleared-length :
       (s : Span) →
-      length (mapOf s (cleared (length base) (length sup))) ≡ length (mapOf s (filling base sup accepted))
+      length (mapOf s (clearedMaps (length base) (length sup))) ≡ length (mapOf s (filling base sup accepted))
   cleared-length Base = length-replicate (length base) 0
   cleared-length Super = length-replicate (length sup) 0
 
@@ -149,7 +149,7 @@ filled-exact frames dom edges base sup a s =
     let long =
     ap (λ f. length (mapOf s f)) same
     ∙ ap length (placed-maps frames dom edges n m s a′)
-    ∙ kept frames dom s edges (cleared n m)
+    ∙ kept frames dom s edges (clearedMaps n m)
     ∙ cleared-length frames dom edges base sup s in
     passes frames dom s edges (mapOf s (filled frames dom edges base sup))
     (rw long (short frames dom edges base sup s (fit frames dom edges base sup a)))

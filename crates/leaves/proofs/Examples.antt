@@ -1,7 +1,7 @@
 -- Document 01's examples, by computation.
 use mathlib.Core.List.{flatMap}
 use mathlib.Core.Path.{refl}
-use Rattle.authority.specs.Authority.{granted, ownerRows, reachRows, authorityRows}
+use Rattle.authority.specs.Authority.{hasGrant, ownerRows, reachRows, authorityRows}
 use Rattle.edge.specs.Edge.{owns, counts}
 use Rattle.edge.specs.Grant.{covers}
 use Rattle.exact.specs.Exact.{lands, afterEdge, afterEdges, row25, comparedRows}
@@ -11,7 +11,7 @@ use Rattle.rows.specs.Rows.{row2, row3, lengthRows, readRows}
 use Rattle.leaves.specs.Examples.{Examples}
 
 pub examples : Examples
-unfolding first flatMap eachFrom row2 row3 lengthRows readRows owns counts covers putIn placed onward placedAll row17 conflicts started filled granted ownerRows reachRows authorityRows lands afterEdge afterEdges row25 comparedRows
+unfolding first flatMap eachFrom row2 row3 lengthRows readRows owns counts covers putIn placed onward placedAll row17 conflicts started filled hasGrant ownerRows reachRows authorityRows lands afterEdge afterEdges row25 comparedRows
 examples =
     record {
       four-edges = refl;

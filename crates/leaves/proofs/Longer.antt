@@ -14,7 +14,7 @@ use Rattle.fields.specs.Named.{pick}
 use Rattle.fields.specs.Numbers.{nonzero}
 use Rattle.filling.proofs.Onward.{on}
 use Rattle.filling.proofs.Placed.{place-none, place-next}
-use Rattle.filling.specs.Filling.{Filling, mapOf, putIn, inMap, putUnder, placed, placedAll, row17, conflicts, cleared, filledInto}
+use Rattle.filling.specs.Filling.{Filling, mapOf, putIn, inMap, putUnder, placed, placedAll, row17, conflicts, clearedMaps, filledInto}
 use Rattle.layout.specs.Size.{entries as mapEntries}
 use Rattle.p2m.specs.Frame.{kindAt, spanOfKind}
 use Rattle.p2m.specs.declared.Span.{Span}
@@ -107,17 +107,17 @@ no-conflict f g same a =
     go i false t =
         no-entry (g .sup) i (getD (g .base) i 0) (sym (same Base i) ∙ List·getD-eq-default (f .base) 0 (ltb-false _ _ t))
 
-cleared-longer : (n m n′ m′ : ℕ) → n ≤ n′ → m ≤ m′ → Longer (cleared n m) (cleared n′ m′)
+cleared-longer : (n m n′ m′ : ℕ) → n ≤ n′ → m ≤ m′ → Longer (clearedMaps n m) (clearedMaps n′ m′)
 cleared-longer n m n′ m′ h k Base = omega (arith, length-replicate {A = ℕ} n 0, length-replicate {A = ℕ} n′ 0)
 cleared-longer n m n′ m′ h k Super = omega (arith, length-replicate {A = ℕ} m 0, length-replicate {A = ℕ} m′ 0)
 
 pub longer-accepts : LongerAccepts
 unfolding filledInto
 longer-accepts frames dom edges n m n′ m′ h k a =
-    let f = placedAll frames dom edges (cleared n m) in
-    let g = placedAll frames dom edges (cleared n′ m′) in
+    let f = placedAll frames dom edges (clearedMaps n m) in
+    let g = placedAll frames dom edges (clearedMaps n′ m′) in
     let ok = all-placed frames dom edges n m a in
-    let ok′ = every frames dom edges (cleared n m) (cleared n′ m′) (cleared-longer n m n′ m′ h k) refl refl ok in
+    let ok′ = every frames dom edges (clearedMaps n m) (clearedMaps n′ m′) (cleared-longer n m n′ m′ h k) refl refl ok in
     ap (λ (x : Filling). x .outcome) (on conflicts g ok′)
     ∙ no-conflict f g (λ s p. placed-entry frames dom edges n m ok s p ∙ sym (placed-entry frames dom edges n′ m′ ok′ s p))
     (sym (ap (λ (x : Filling). x .outcome) (on conflicts f ok)) ∙ a)

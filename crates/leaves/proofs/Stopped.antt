@@ -11,7 +11,7 @@ use Rattle.edge.specs.declared.Edge.{Edge}
 use Rattle.fields.specs.Named.{pick}
 use Rattle.filling.proofs.Onward.{on, off}
 use Rattle.filling.proofs.Placed.{place-none, place-next, place-stop}
-use Rattle.filling.specs.Filling.{Filling, mapOf, putIn, inMap, putUnder, placed, placedAll, conflicts, cleared, filledInto}
+use Rattle.filling.specs.Filling.{Filling, mapOf, putIn, inMap, putUnder, placed, placedAll, conflicts, clearedMaps, filledInto}
 use Rattle.p2m.specs.Frame.{kindAt, spanOfKind}
 use Rattle.p2m.specs.declared.Span.{Span}
 use Rattle.p2m.specs.declared.Span.the-variants.{Base, Super}
@@ -130,7 +130,7 @@ unfolding filledInto
 refused-holds frames dom edges n m r h = go (f .outcome) refl
   where
     f : Filling
-    f = placedAll frames dom edges (cleared n m)
+    f = placedAll frames dom edges (clearedMaps n m)
 
     go : (o : Outcome) → f .outcome ≡ o → Stopped frames dom edges n m r ⊎ Conflicting frames dom edges n m r
     go accepted a =
@@ -143,7 +143,7 @@ refused-holds frames dom edges n m r h = go (f .outcome) refl
         })
     go (refused q) e =
         let same = off conflicts f q e in
-        let s = stops frames dom edges (cleared n m) r refl (sym (ap (λ (g : Filling). g .outcome) same) ∙ h) in
+        let s = stops frames dom edges (clearedMaps n m) r refl (sym (ap (λ (g : Filling). g .outcome) same) ∙ h) in
         inl
         (record {
           before = s .before;

@@ -6,7 +6,7 @@ use mathlib.Core.Path.{_≡_}
 use lib.ListN.{getD}
 use Rattle.edge.specs.declared.Edge.{Edge}
 use Rattle.exact.specs.Exact.{expected, exactRows}
-use Rattle.filling.specs.Filling.{mapOf, placed, placedAll, conflicts, cleared, filledInto, filled}
+use Rattle.filling.specs.Filling.{mapOf, placed, placedAll, conflicts, clearedMaps, filledInto, filled}
 use Rattle.layout.specs.Size.{entries as mapEntries}
 use Rattle.p2m.specs.declared.Span.{Span}
 use Rattle.refusal.specs.Table.{Row, accepted, refused, first}
@@ -61,15 +61,15 @@ pub record Stopped (frames : List (List ℕ)) (dom : ℕ) (edges : List Edge) (n
   pub failing : Edge
   pub after : List Edge
   pub split : edges ≡ before ++ failing ∷ after
-  pub placed-before : placedAll frames dom before (cleared n m) .outcome ≡ accepted
-  pub fails : placed frames dom (placedAll frames dom before (cleared n m)) failing .outcome ≡ refused r
-  pub held : (s : Span) → mapOf s (filledInto frames dom edges n m) ≡ mapOf s (placedAll frames dom before (cleared n m))
+  pub placed-before : placedAll frames dom before (clearedMaps n m) .outcome ≡ accepted
+  pub fails : placed frames dom (placedAll frames dom before (clearedMaps n m)) failing .outcome ≡ refused r
+  pub held : (s : Span) → mapOf s (filledInto frames dom edges n m) ≡ mapOf s (placedAll frames dom before (clearedMaps n m))
 
 -- on 17 all edges
 pub record Conflicting (frames : List (List ℕ)) (dom : ℕ) (edges : List Edge) (n m : ℕ) (r : Row) : Type 0 where
-  pub placed-all : placedAll frames dom edges (cleared n m) .outcome ≡ accepted
-  pub conflict : conflicts (placedAll frames dom edges (cleared n m)) .outcome ≡ refused r
-  pub held : (s : Span) → mapOf s (filledInto frames dom edges n m) ≡ mapOf s (placedAll frames dom edges (cleared n m))
+  pub placed-all : placedAll frames dom edges (clearedMaps n m) .outcome ≡ accepted
+  pub conflict : conflicts (placedAll frames dom edges (clearedMaps n m)) .outcome ≡ refused r
+  pub held : (s : Span) → mapOf s (filledInto frames dom edges n m) ≡ mapOf s (placedAll frames dom edges (clearedMaps n m))
 
 abbrev pub RefusedHolds : Type 0
 RefusedHolds =

@@ -14,7 +14,7 @@ use Rattle.perm.specs.declared.Perm.the-variants.{Ro, Rw}
 use Rattle.perm.specs.declared.Perm.{Perm}
 use Rattle.reach.specs.declared.Reached.{Reached}
 use Rattle.reach.specs.declared.Reached.the-variants.{At, Nothing}
-use Rattle.walk.specs.Walk.{joined}
+use Rattle.walk.specs.Walk.{leafReach}
 use Rattle.manual.specs.Agreement.{alike, Agrees, LeavesAgree}
 use Rattle.manual.specs.Translation.{Level, el0, el1, Access, reads, writes, executes, Translated, byte, fault, leaf, allowed}
 
@@ -129,18 +129,18 @@ both-bits : (d : ℕ) → s2ap d ≡ bits 6 6 d + 2 * bits 7 7 d
 both-bits d = omega arith
 
 read-access : (s pa offset : ℕ) (never : Bool) →
-    joined offset (leafOf pa never (accessNamed s))
+    leafReach offset (leafOf pa never (accessNamed s))
     ≡ pick (eqb s 3) (At (record { pa = pa + offset; perm = Rw; xn = never })) (pick (eqb s 1) (At (record { pa = pa + offset; perm = Ro; xn = never })) Nothing)
 read-access s pa offset never = go (eqb s 3) (eqb s 1) refl refl
   where
     go : (b c : Bool) → eqb s 3 ≡ b → eqb s 1 ≡ c →
-        joined offset (leafOf pa never (accessNamed s))
+        leafReach offset (leafOf pa never (accessNamed s))
         ≡ pick b (At (record { pa = pa + offset; perm = Rw; xn = never })) (pick c (At (record { pa = pa + offset; perm = Ro; xn = never })) Nothing)
     go true c e f = rw e
     go false true e f = rw (e, f)
     go false false e f = rw (e, f)
 
-reads-bits : (d pa offset : ℕ) → joined offset (leafAt pa d) ≡ readBits (pa + offset) (bits 6 6 d) (bits 7 7 d) (xn d)
+reads-bits : (d pa offset : ℕ) → leafReach offset (leafAt pa d) ≡ readBits (pa + offset) (bits 6 6 d) (bits 7 7 d) (xn d)
 reads-bits d pa offset =
     read-access (s2ap d) pa offset (executeNever d)
     ∙ ap (λ (s : ℕ). pick (eqb s 3) (reachBits (pa + offset) Rw (xn d)) (pick (eqb s 1) (reachBits (pa + offset) Ro (xn d)) Nothing)) (both-bits d)

@@ -9,7 +9,7 @@ use Rattle.desc.specs.Descriptor.{descriptorType, blockType, tableType, pageTyp
 use Rattle.fields.specs.Bits.{bits}
 use Rattle.fields.specs.Named.{pick}
 use Rattle.walk.specs.Descent.{Words}
-use Rattle.walk.specs.Walk.{joined, walkOf}
+use Rattle.walk.specs.Walk.{leafReach, walkOf}
 use Rattle.manual.specs.Translation.{Access, Machine, leaf, translation, allowed}
 
 -- bit 53 is not read, or clear
@@ -25,7 +25,7 @@ alike xnx d =
 
 -- what the walk reads of a leaf word, by the address in it and the offset, lets exactly the accesses that the manual lets
 abbrev pub Agrees : Bool → ℕ → Type 0
-Agrees xnx d = (a : Access) (pa offset : ℕ) → leaf xnx a (pa + offset) d ≡ allowed a (joined offset (leafAt pa d))
+Agrees xnx d = (a : Access) (pa offset : ℕ) → leaf xnx a (pa + offset) d ≡ allowed a (leafReach offset (leafAt pa d))
 
 -- the condition is exact
 pub record LeavesAgree : Type 0 where

@@ -10,7 +10,7 @@ use lib.Seq.{length-take-le}
 use borrow.Author.Tests.{ltb-true, ltb-false, lt-leb}
 use Rattle.fields.specs.Ascii.{space}
 use Rattle.fields.specs.Named.{pick}
-use Rattle.scene_line.specs.Line.{numberOf, withDigits, firstSpace, before, after, saidBy, saidAfter, lineOf}
+use Rattle.scene_line.specs.Line.{numberOf, withDigits, firstSpace, beforeSpace, afterSpace, saidBy, saidAfter, lineOf}
 use Rattle.scene_line.specs.Long.{LongSaysNothing}
 use Rattle.scene_line.specs.declared.Line.the-variants.{Bad}
 use Rattle.scene_line.specs.declared.Number.the-variants.{Value, NoNumber}
@@ -42,16 +42,16 @@ long-after : (letter : ℕ) (cs : List ℕ) → 33 < length cs → saidAfter let
 unfolding saidAfter
 long-after letter cs h = go (ltb 16 (firstSpace cs)) refl
   where
-    go : (b : Bool) → ltb 16 (firstSpace cs) ≡ b → saidBy letter (numberOf (before cs)) (numberOf (after cs)) ≡ Bad
+    go : (b : Bool) → ltb 16 (firstSpace cs) ≡ b → saidBy letter (numberOf (beforeSpace cs)) (numberOf (afterSpace cs)) ≡ Bad
     go true e =
         let far = ltb-true 16 (firstSpace cs) e in
         let long = length-take-le (firstSpace cs) cs (space-within cs) in
-        ap (λ n. saidBy letter n (numberOf (after cs))) (too-many (before cs) (omega (arith, far, long)))
+        ap (λ n. saidBy letter n (numberOf (afterSpace cs))) (too-many (beforeSpace cs) (omega (arith, far, long)))
     go false e =
         let near = ltb-false 16 (firstSpace cs) e in
         let long = length-drop (firstSpace cs + 1) cs in
-        ap (saidBy letter (numberOf (before cs))) (too-many (after cs) (omega (arith, near, long, h)))
-        ∙ no-second letter (numberOf (before cs))
+        ap (saidBy letter (numberOf (beforeSpace cs))) (too-many (afterSpace cs) (omega (arith, near, long, h)))
+        ∙ no-second letter (numberOf (beforeSpace cs))
 
 pub long-says-nothing : LongSaysNothing
 unfolding lineOf

@@ -50,11 +50,11 @@ firstSpace [] = 0
 firstSpace (c ∷ cs) = pick (eqb c space) 0 (suc (firstSpace cs))
 
 -- the bytes before the first space, and those after it
-abbrev pub before : List ℕ → List ℕ
-before cs = take (firstSpace cs) cs
+abbrev pub beforeSpace : List ℕ → List ℕ
+beforeSpace cs = take (firstSpace cs) cs
 
-abbrev pub after : List ℕ → List ℕ
-after cs = drop (firstSpace cs + 1) cs
+abbrev pub afterSpace : List ℕ → List ℕ
+afterSpace cs = drop (firstSpace cs + 1) cs
 
 abbrev pub exemption : ℕ
 exemption = 0xF
@@ -80,7 +80,7 @@ saidBy letter NoNumber b = Bad
 
 -- two numbers with one space between
 unfoldable pub saidAfter : ℕ → List ℕ → Line
-saidAfter letter cs = saidBy letter (numberOf (before cs)) (numberOf (after cs))
+saidAfter letter cs = saidBy letter (numberOf (beforeSpace cs)) (numberOf (afterSpace cs))
 
 -- a letter, a space and the two numbers, without the line feed
 unfoldable pub lineOf : List ℕ → Line

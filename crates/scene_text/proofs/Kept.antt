@@ -14,7 +14,7 @@ use Rattle.scene.specs.Scene.{Scene, applied}
 use Rattle.scene_line.specs.Line.{lineOf, says}
 use Rattle.scene_line.specs.declared.Line.the-variants.{Field, Base, Super, Bad}
 use Rattle.scene_line.specs.declared.Line.{Line}
-use Rattle.scene_text.specs.Reading.{Reading, reading, stopped, onward, taken, takenAll, finished, readOf}
+use Rattle.scene_text.specs.Reading.{Reading, reading, stopped, readOn, taken, takenAll, finished, readOf}
 use Rattle.scene_text.specs.Text.{heard}
 
 -- a bad line sets nothing, so that a line may be set before it is known to say something
@@ -30,7 +30,7 @@ last-line s [] h = absurd (omega (arith, h))
 last-line s (c ∷ cs) h = refl
 
 module _ (room : ℕ) (s : Scene) (line : List ℕ) (c : ℕ) where
-  pub line-ended : c ≡ lineFeed → taken room (reading s line) c ≡ onward (heard s (lineOf line))
+  pub line-ended : c ≡ lineFeed → taken room (reading s line) c ≡ readOn (heard s (lineOf line))
   line-ended e = rw (eq-eqb c lineFeed e)
 
   pub line-goes-on : (c ≡ lineFeed → ⊥) → taken room (reading s line) c ≡ reading s (take room (line ++ (c ∷ [])))

@@ -14,7 +14,7 @@ use Rattle.fields.specs.Named.{pick}
 use Rattle.scene.specs.Scene.{Scene}
 use Rattle.scene_line.proofs.Long.{long-says-nothing}
 use Rattle.scene_line.specs.Line.{lineOf}
-use Rattle.scene_text.specs.Reading.{reading, onward, taken, takenAll, finished, ReadsLines, ReadsPieces}
+use Rattle.scene_text.specs.Reading.{reading, readOn, taken, takenAll, finished, ReadsLines, ReadsPieces}
 use Rattle.scene_text.specs.Text.{Read, whole, badLine, heard, withByte, withLine, linesOf, readFrom}
 use Rattle.scene_text.proofs.Kept.{last-line, stays}
 
@@ -80,7 +80,7 @@ module _ (room : ℕ) (enough : 35 < room) where
   Reads s line text = finished (takenAll room (reading s (take room line)) text) ≡ foldl withLine (whole s) (after line text)
 
   onward-read :
-      (r : Read) (cs : List ℕ) → ((s : Scene) → Reads s [] cs) → finished (takenAll room (onward r) cs) ≡ foldl withLine r (linesOf cs)
+      (r : Read) (cs : List ℕ) → ((s : Scene) → Reads s [] cs) → finished (takenAll room (readOn r) cs) ≡ foldl withLine r (linesOf cs)
   unfolding after
   onward-read (whole s) cs later = ap (λ l. finished (takenAll room (reading s l) cs)) (sym (take-nil room)) ∙ later s
   onward-read (badLine s) cs later = ap finished (stays room s cs) ∙ sym (unheard s (linesOf cs))
@@ -91,10 +91,10 @@ module _ (room : ℕ) (enough : 35 < room) where
   one-byte s line c cs next more = go (eqb c lineFeed) refl
     where
       go : (b : Bool) → eqb c lineFeed ≡ b →
-          finished (takenAll room (pick b (onward (heard s (lineOf (take room line)))) (reading s (take room (take room line ++ (c ∷ []))))) cs)
+          finished (takenAll room (pick b (readOn (heard s (lineOf (take room line)))) (reading s (take room (take room line ++ (c ∷ []))))) cs)
           ≡ foldl withLine (whole s) (after line (c ∷ cs))
       go true e =
-          ap (λ l. finished (takenAll room (onward (heard s l)) cs)) (says-same line)
+          ap (λ l. finished (takenAll room (readOn (heard s l)) cs)) (says-same line)
           ∙ onward-read (heard s (lineOf line)) cs next
           ∙ ap (foldl withLine (whole s)) (sym (after-feed line c cs e))
       go false e =

@@ -19,14 +19,14 @@ pub data Reading : Type 0 where
   stopped : Scene → Reading
 
 -- after a line that has ended
-abbrev pub onward : Read → Reading
-onward (whole s) = reading s []
-onward (badLine s) = stopped s
+abbrev pub readOn : Read → Reading
+readOn (whole s) = reading s []
+readOn (badLine s) = stopped s
 
 -- one byte more: a line feed ends the line, of which as many bytes are kept as there is room for
 abbrev pub taken : ℕ → Reading → ℕ → Reading
 taken room (reading s line) c =
-    pick (eqb c lineFeed) (onward (heard s (lineOf line))) (reading s (take room (line ++ (c ∷ []))))
+    pick (eqb c lineFeed) (readOn (heard s (lineOf line))) (reading s (take room (line ++ (c ∷ []))))
 taken room (stopped s) c = stopped s
 
 unfoldable pub takenAll : ℕ → Reading → List ℕ → Reading

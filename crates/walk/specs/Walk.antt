@@ -18,13 +18,13 @@ use Rattle.walk.specs.declared.Stop.{Stop}
 use Rattle.walk.specs.declared.Stop.the-variants.{Leaf, Stopped}
 
 -- the leaf's output address, and the offset below it; access 00 or 10 reaches nothing
-abbrev pub joined : ℕ → DecodedLeaf → Reached
-joined offset (Decodes d) = At (record { pa = d .pa + offset; perm = d .perm; xn = d .xn })
-joined offset NoLeaf = Nothing
+abbrev pub leafReach : ℕ → DecodedLeaf → Reached
+leafReach offset (Decodes d) = At (record { pa = d .pa + offset; perm = d .perm; xn = d .xn })
+leafReach offset NoLeaf = Nothing
 
 -- a page at level 3, else a block
 abbrev pub reading : ℕ → Stop → Reached
-reading x (Leaf level d) = pick (eqb level 3) (joined (x % page) (decodedPage d)) (joined (x % block) (decodedBlock d))
+reading x (Leaf level d) = pick (eqb level 3) (leafReach (x % page) (decodedPage d)) (leafReach (x % block) (decodedBlock d))
 reading x (Stopped level) = Nothing
 
 -- where the walk stops: it starts at the l1 address; an address of 2^39 or more stops at level 0, as DDI 0487 has it

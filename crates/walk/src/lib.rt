@@ -13,7 +13,7 @@ ghost use Rattle.layout.specs.Size.{entries, block, outputLimit};
 ghost use Rattle.reach.specs.Reach.{toldOf};
 ghost use Rattle.walk.specs.Descent.{index, wordsOf, fetch, endsAt, nextTable, through};
 ghost use Rattle.walk.specs.Packed.{packed, unpacked};
-ghost use Rattle.walk.specs.Walk.{joined, reading, stopOf, walkedFrom};
+ghost use Rattle.walk.specs.Walk.{leafReach, reading, stopOf, walkedFrom};
 
 // Where a descent ends: at a leaf word, or at a level where no word leads on.
 pub enum Stop {
@@ -166,7 +166,7 @@ fn reach_of(stop: Stop, ipa: u64) -> Reached
 fn join(leaf: DecodedLeaf, offset: u64) -> Reached
     requires { ⌜ outputOf leaf < outputLimit ⌝ }
     requires { ⌜ offset < block ⌝ }
-    ensures { λ r. ⌜ r ≡ joined offset leaf ⌝ }
+    ensures { λ r. ⌜ r ≡ leafReach offset leaf ⌝ }
 {
     let DecodedLeaf::Leaf(decoded) = leaf else {
         return Reached::Nothing;

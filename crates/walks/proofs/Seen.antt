@@ -19,7 +19,7 @@ use Rattle.manual.specs.Translation.{Machine, Access, level1, level2, level3, t
 use Rattle.reach.specs.declared.Reached.{Reached}
 use Rattle.reach.specs.declared.Reached.the-variants.{Nothing}
 use Rattle.walk.specs.Descent.{Words, index, fetch, endsAt, leads, descend}
-use Rattle.walk.specs.Walk.{joined, reading, walkOf}
+use Rattle.walk.specs.Walk.{leafReach, reading, walkOf}
 use Rattle.walk.specs.declared.Stop.the-variants.{Leaf}
 use Rattle.walk.specs.declared.Stop.{Stop}
 use Rattle.window_reach.specs.Granted.{reachAt}
@@ -82,10 +82,10 @@ module _ (tables : List ℕ) (words : Words) (x : ℕ) where
     walk-seen r (blank3 d t e u f n g o h) = rw (lt-ltb _ _ low, f 0, n .decodes, g 0, o .decodes, h 0)
     walk-seen r (block2 d t e pa a f n g b) =
         let stop : descend tables (λ left. words) 2 root x ≡ Leaf 2 e = rw (f 0, n .decodes, g 0) (stop-block e (b .type) _) in
-        rw (lt-ltb _ _ low) (ap (reading x) stop ∙ ap (joined (x % block)) (b .decodes))
+        rw (lt-ltb _ _ low) (ap (reading x) stop ∙ ap (leafReach (x % block)) (b .decodes))
     walk-seen r (page3 d t e u w pa a f n g o h p) =
         let stop : descend tables (λ left. words) 2 root x ≡ Leaf 3 w = rw (f 0, n .decodes, g 0, o .decodes, h 0) (stop-page w (p .type)) in
-        rw (lt-ltb _ _ low) (ap (reading x) stop ∙ ap (joined (x % page)) (p .decodes))
+        rw (lt-ltb _ _ low) (ap (reading x) stop ∙ ap (leafReach (x % page)) (p .decodes))
 
   module _ (low : x < inputLimit) (m : Machine) (c : Access) where
     out : ℕ → ℕ → ℕ

@@ -7,7 +7,7 @@ use lib.ListN.{length, take, drop, drop-of-length-le}
 use lib.Seq.{length-take-le}
 use borrow.Author.Needs.{needs}
 use denote.Ref.{now}
-use Rattle.scene_line.specs.Line.{numberOf, firstSpace, before, after, saidBy, saidAfter}
+use Rattle.scene_line.specs.Line.{numberOf, firstSpace, beforeSpace, afterSpace, saidBy, saidAfter}
 use Rattle.scene_line.specs.declared.Line.the-variants.{Bad}
 use Rattle.scene_line.specs.declared.Number.{Number}
 use Rattle.scene_line.specs.declared.Number.the-variants.{Value, NoNumber}
@@ -25,7 +25,7 @@ nothing = refl
 
 first :
     (c : tie.After-number-of) →
-    c .number-of .result ≡ numberOf (before (now (c .before .before .before .before .before .args .text)))
+    c .number-of .result ≡ numberOf (beforeSpace (now (c .before .before .before .before .before .args .text)))
 first c =
     let f = c .before .before .before in
     c .number-of .ensures ∙ ap (λ k. numberOf (take k (now (f .before .before .args .text)))) (f .first-space .ensures)
@@ -33,7 +33,7 @@ first c =
 second :
     (c : tie.After-number-of2) →
     let f = c .before .before .before .before .before .before .before .before in
-    c .number-of2 .result ≡ numberOf (after (now (f .before .before .args .text)))
+    c .number-of2 .result ≡ numberOf (afterSpace (now (f .before .before .args .text)))
 second c =
     let f = c .before .before .before .before .before .before .before .before in
     let text = now (f .before .before .args .text) in
@@ -51,7 +51,7 @@ returns c =
     let a = f .before .before .args in
     let past : length (now (a .text)) ≤ firstSpace (now (a .text)) + 1 = omega (arith, c .if1 .taken, f .first-space .ensures) in
     let none = ap numberOf (drop-of-length-le (now (a .text)) past) ∙ nothing in
-    sym (no-second (a .letter) (numberOf (before (now (a .text)))) _ none)
+    sym (no-second (a .letter) (numberOf (beforeSpace (now (a .text)))) _ none)
 
 slice-aggregate-number-of : tie.Need-slice-aggregate-number-of
 slice-aggregate-number-of c = sym (length-take-le _ _ (omega arith))
@@ -70,7 +70,7 @@ unfolding saidAfter
 returns-2 c =
     let v = c .before .before in
     let a = v .before .before .before .before .before .args in
-    sym (ap (λ x. saidBy (a .letter) x (numberOf (after (now (a .text))))) (sym (first v) ∙ c .enum-told .given .1))
+    sym (ap (λ x. saidBy (a .letter) x (numberOf (afterSpace (now (a .text))))) (sym (first v) ∙ c .enum-told .given .1))
 
 add-number-of : tie.Need-add-number-of
 add-number-of c = search needs
@@ -99,7 +99,7 @@ returns-3 c =
     let w = c .before .before in
     let v = w .before .before .before .before .before in
     let a = v .before .before .before .before .before .args in
-    sym (no-second (a .letter) (numberOf (before (now (a .text)))) _ (sym (second w) ∙ c .enum-told2 .given .1))
+    sym (no-second (a .letter) (numberOf (beforeSpace (now (a .text)))) _ (sym (second w) ∙ c .enum-told2 .given .1))
 
 said-requires : tie.Need-said-requires
 said-requires c κs = search needs

@@ -6,7 +6,7 @@ use lib.Seq.{length-take-le}
 use borrow.Author.Needs.{needs}
 use denote.Ref.{now}
 use Rattle.scene.specs.Scene.{scene}
-use Rattle.scene_text.specs.Reading.{reading, onward}
+use Rattle.scene_text.specs.Reading.{reading, readOn}
 use Rattle.scene_text.proofs.Kept.{line-ended, line-goes-on, one-kept, none-kept}
 use Rattle.scene_text.proofs.take_byte.Statement.{statement}
 use Rattle.scene_text.proofs.take_byte.Tie as tie
@@ -40,7 +40,7 @@ returns c =
     let old = scene (now (a .numbers)) (now (a .base)) (now (a .sup)) in
     let line = now (a .line) in
     let said = rw (c .if2 .taken) at (v .set .ensures) in
-    (search needs, ap onward said ∙ sym (line-ended (length line) old (take (a .len) line) (a .byte) (f .if1 .taken)))
+    (search needs, ap readOn said ∙ sym (line-ended (length line) old (take (a .len) line) (a .byte) (f .if1 .taken)))
 
 same-length-5 : tie.Need-same-length-5
 same-length-5 c = search needs
@@ -62,7 +62,7 @@ returns-2 c =
     let old = scene (now (a .numbers)) (now (a .base)) (now (a .sup)) in
     let line = now (a .line) in
     let said = rw (c .if2 .left) at (v .set .ensures) in
-    (search needs, ap onward said ∙ sym (line-ended (length line) old (take (a .len) line) (a .byte) (f .if1 .taken)))
+    (search needs, ap readOn said ∙ sym (line-ended (length line) old (take (a .len) line) (a .byte) (f .if1 .taken)))
 
 returns-3 : tie.Need-returns-3
 returns-3 c =

@@ -3,7 +3,7 @@ use mathlib.Core.Path.{sym, ap}
 use native.Mathlib.Omega.{arith}
 use borrow.Author.Needs.{needs}
 use Rattle.decode.specs.Decoded.{outputOf}
-use Rattle.walk.specs.Walk.{joined}
+use Rattle.walk.specs.Walk.{leafReach}
 use Rattle.walk.proofs.join.Statement.{statement}
 use Rattle.walk.proofs.join.Tie as tie
 
@@ -23,7 +23,7 @@ add-t5 c =
 
 returns-2 : tie.Need-returns-2
 returns-2 c =
-    let e = c .before .before in sym (ap (joined (e .before .before .args .offset)) (e .leaf .given .1))
+    let e = c .before .before in sym (ap (leafReach (e .before .before .args .offset)) (e .leaf .given .1))
 
 pub join-spec : {M : Type 1} → statement M
 join-spec = tie.close (tie.spec enum-known-leaf enum-told returns add-t5 returns-2)

@@ -6,7 +6,7 @@ use borrow.Author.Needs.{needs}
 use borrow.Author.Tests.{eq-eqb, ne-eqb}
 use Rattle.decode.proofs.Output.{page-below, block-below}
 use Rattle.layout.specs.Size.{page, block}
-use Rattle.walk.specs.Walk.{joined, reading}
+use Rattle.walk.specs.Walk.{leafReach, reading}
 use Rattle.walk.proofs.reach_of.Statement.{statement}
 use Rattle.walk.proofs.reach_of.Tie as tie
 
@@ -36,7 +36,7 @@ returns c =
     let e = d .before .before .before in
     let x = e .before .before .args .ipa in
     c .join .ensures
-    ∙ ap (joined (x % page)) (d .decode-page .ensures)
+    ∙ ap (leafReach (x % page)) (d .decode-page .ensures)
     ∙ sym (ap (reading x) (e .stop .given .1) ∙ simp (eq-eqb _ _ (d .before .if1 .taken)))
 
 returns-2 : tie.Need-returns-2
@@ -45,7 +45,7 @@ returns-2 c =
     let e = d .before .before .before in
     let x = e .before .before .args .ipa in
     c .join2 .ensures
-    ∙ ap (joined (x % block)) (d .decode-block .ensures)
+    ∙ ap (leafReach (x % block)) (d .decode-block .ensures)
     ∙ sym (ap (reading x) (e .stop .given .1) ∙ simp (ne-eqb _ _ (d .before .if1 .left)))
 
 returns-3 : tie.Need-returns-3
