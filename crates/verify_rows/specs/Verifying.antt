@@ -9,10 +9,11 @@ use Rattle.decode.specs.declared.DecodedBlock.the-variants.{Device, Nothing}
 use Rattle.decode.specs.declared.DecodedBlock.{DecodedBlock}
 use Rattle.desc.specs.Descriptor.{pageAddress, blockAddress}
 use Rattle.fields.specs.Named.{pick}
+use Rattle.layout.specs.Area.{liveAreasOf, areaSlot, areaHas}
 use Rattle.layout.specs.Size.{entries, page, block, l1Span}
-use Rattle.layout.specs.Window.{imageWindow, dataWindow, superWindow, deviceWindow, l2Slot, slot}
+use Rattle.layout.specs.Window.{imageWindow, l2Slot}
+use Rattle.layout.specs.declared.Area.{Area}
 use Rattle.layout.specs.declared.Layout.{Layout}
-use Rattle.layout.specs.declared.Window.{Window}
 use Rattle.refusal.specs.Table.{Row, given, each, table}
 use Rattle.rows.specs.Rows.{row1, mapRows, refusals}
 use Rattle.verify_rows.specs.Word.{row18, row19, spurious, wantedLeaf, leafRow, blockRow}
@@ -30,32 +31,14 @@ range k (suc n) = k ∷ range (suc k) n
 abbrev pub indices : List ℕ
 indices = range 0 entries
 
--- a window that has a word in table 1, and the address of the table that the word names
-pub record Live : Type 0 where
-  pub window : Window
-  pub pa : ℕ
-
-abbrev pub live : Window → ℕ → Live
-live w pa = record { window = w; pa = pa }
-
--- data, super, image, device
-abbrev pub liveOf : Layout → List Live
-liveOf l =
-    live (dataWindow l) (l .«l2_data_pa»)
-    ∷ live (superWindow l) (l .«l2_sup_pa»)
-    ∷ live (imageWindow (l .«guest_image_pa»)) (l .«l2_code_pa»)
-    ∷ live (deviceWindow l) (l .«l2_dev_pa»)
-    ∷ []
-
 -- live l1 words: 18
-unfoldable pub liveRow : List ℕ → Live → List Row
-liveRow arena x =
-    let j = slot (x .window) in given (x .window .present) (row18 1 j (word arena 1 j) (x .pa))
+unfoldable pub liveRow : List ℕ → Area → List Row
+liveRow arena a = let j = areaSlot a in given (a .present) (row18 1 j (word arena 1 j) (a .table))
 
 -- a word of table 1 belongs to a window
-abbrev pub windowAt : List Live → ℕ → Bool
+abbrev pub windowAt : List Area → ℕ → Bool
 windowAt [] j = false
-windowAt (x ∷ xs) j = (x .window .present && eqb (slot (x .window)) j) || windowAt xs j
+windowAt (a ∷ rest) j = areaHas a j || windowAt rest j
 
 -- the image's block stands in table 2, and the table of data's pages is named in table 3
 abbrev pub imageAt : Layout → ℕ → Bool
@@ -66,7 +49,7 @@ dataAt l j = eqb (l2Slot (l .«data_ipa_base»)) j
 
 -- the words of tables 1, 2 and 3 that are live
 abbrev pub liveAt : Layout → ℕ → ℕ → Bool
-liveAt l t = pick (eqb t 1) (windowAt (liveOf l)) (pick (eqb t 2) (imageAt l) (dataAt l))
+liveAt l t = pick (eqb t 1) (windowAt (liveAreasOf l)) (pick (eqb t 2) (imageAt l) (dataAt l))
 
 -- the other words of a table: 21 if not 0
 unfoldable pub otherRow : List ℕ → Layout → ℕ → ℕ → List Row
@@ -78,7 +61,7 @@ otherRows arena l t = each (otherRow arena l t) indices
 
 -- table 1: 18, then 21
 unfoldable pub l1Rows : List ℕ → Layout → List Row
-l1Rows arena l = table (each (liveRow arena) (liveOf l) ∷ otherRows arena l 1 ∷ [])
+l1Rows arena l = table (each (liveRow arena) (liveAreasOf l) ∷ otherRows arena l 1 ∷ [])
 
 -- table 2: 19, if there is an image, then 21
 unfoldable pub imageRows : List ℕ → Layout → List Row

@@ -1,61 +1,56 @@
 // Verification of tables 1 to 3 (hv-s2's arm64.rs, `verify_encoding`): the words that name tables, the image's block, and no others.
+use layout::Area;
 use layout::Layout;
-use layout::Window;
 use refusal::Refusal;
 use refusal::Verdict;
-ghost use Prim.Native.Nat.{ℕ, _+_, _<_, _≤_};
-ghost use mathlib.Core.Bool.{_&&_};
+ghost use Prim.Native.Nat.{ℕ, _+_, _*_, _<_, _≤_};
 ghost use mathlib.Core.Path.{_≡_};
-ghost use lib.Dec.{eqb};
 ghost use lib.ListN.{getD};
 ghost use Rattle.layout.specs.Size.{entries};
-ghost use Rattle.layout.specs.Window.{l1Slot, l2Slot, slot};
+ghost use Rattle.layout.specs.Window.{l2Slot};
 ghost use Rattle.refusal.specs.Outcome.{outcomeOf};
 ghost use Rattle.refusal.specs.Table.{first, given, each};
-ghost use Rattle.verify_rows.specs.Verifying.{word, liveOf, liveRow, windowAt, imageAt, liveAt, otherRows, l1Rows, imageRows, dataRows};
-ghost use Rattle.verify_rows.specs.Word.{row18, row19};
+ghost use Rattle.verify_rows.specs.Verifying.{word, liveRow, windowAt, imageAt, liveAt, otherRows, l1Rows, imageRows, dataRows};
+ghost use Rattle.verify_rows.specs.Word.{row19};
 
 // Table 1.
 pub fn verify_l1(arena: &[u64], l: Layout) -> Verdict
     ensures { λ r. ⌜ outcomeOf r ≡ first (l1Rows (now (arena .entry)) l) ⌝ }
 {
-    let live = live_words(arena, l);
+    let live = live_words(arena, l.live_areas());
     let Verdict::Accepted = live else {
         return live;
     };
     other_words(arena, l, 1)
 }
 
-// Row 18 of each window that is present: data, super, image, device.
-fn live_words(arena: &[u64], l: Layout) -> Verdict
-    ensures { λ r. ⌜ outcomeOf r ≡ first (each (liveRow (now (arena .entry))) (liveOf l)) ⌝ }
+// Data, super, image, device.
+fn live_words(arena: &[u64], areas: [Area; Layout::WINDOWS]) -> Verdict
+    ensures { λ r. ⌜ outcomeOf r ≡ first (each (liveRow (now (arena .entry))) areas) ⌝ }
 {
-    let data = live_word(arena, true, l.data_ipa_base, l.l2_data_pa);
-    let Verdict::Accepted = data else {
-        return data;
-    };
-    let supers = live_word(arena, true, l.sup_ipa_base, l.l2_sup_pa);
-    let Verdict::Accepted = supers else {
-        return supers;
-    };
-    let image_pa = l.guest_image_pa;
-    let image = image_pa.window();
-    let code = live_word(arena, image.present, image.ipa, l.l2_code_pa);
-    let Verdict::Accepted = code else {
-        return code;
-    };
-    let device = l.device_window();
-    live_word(arena, device.present, device.ipa, l.l2_dev_pa)
+    for i in 0..Layout::WINDOWS {
+        let verdict = live_word(arena, areas[i]);
+        let Verdict::Accepted = verdict else {
+            return verdict;
+        };
+    }
+    Verdict::Accepted
 }
 
-fn live_word(arena: &[u64], present: bool, ipa: u64, pa: u64) -> Verdict
-    ensures { λ r. ⌜ outcomeOf r ≡ first (given present (row18 1 (l1Slot ipa) (word (now (arena .entry)) 1 (l1Slot ipa)) pa)) ⌝ }
+// Row 18.
+fn live_word(arena: &[u64], area: Area) -> Verdict
+    ensures { λ r. ⌜ outcomeOf r ≡ first (liveRow (now (arena .entry)) area) ⌝ }
 {
-    if !present {
+    if !area.present {
         return Verdict::Accepted;
     }
-    let index = Layout::l1_index(ipa);
-    verify_word::table_entry(1, index, verify_word::word_at(arena, index as usize), pa)
+    let index = area.l1_index();
+    verify_word::table_entry(
+        1,
+        index,
+        verify_word::word_at(arena, index as usize),
+        area.table,
+    )
 }
 
 // Table 2. With no image every word is wanted to be 0.
@@ -121,7 +116,7 @@ fn other_words(arena: &[u64], l: Layout, table: usize) -> Verdict
 
 // An index up to which the words of a table, from j on, are 0. It works out no slot, and takes four words a turn.
 fn past_zeros(arena: &[u64], from: usize, j: usize) -> usize
-    requires { ⌜ from ≤ 1024 ⌝ }
+    requires { ⌜ from ≤ 2 * entries ⌝ }
     requires { ⌜ j ≤ entries ⌝ }
     ensures { λ r. ⌜ (j ≤ r) × (r ≤ entries) × ((k : ℕ) → k < r → j ≤ k → getD (now (arena .entry)) (from + k) 0 ≡ 0) ⌝ }
 {
@@ -153,35 +148,21 @@ fn live_at(l: Layout, table: usize, j: u64) -> bool
     ensures { λ r. ⌜ r ≡ liveAt l table j ⌝ }
 {
     match table {
-        1 => window_at(l, j),
+        1 => window_at(l.live_areas(), j),
         2 => image_at(l, j),
         _ => Layout::l2_index(l.data_ipa_base) == j,
     }
 }
 
-fn window_at(l: Layout, j: u64) -> bool
-    ensures { λ r. ⌜ r ≡ windowAt (liveOf l) j ⌝ }
+fn window_at(areas: [Area; Layout::WINDOWS], j: u64) -> bool
+    ensures { λ r. ⌜ r ≡ windowAt areas j ⌝ }
 {
-    if Layout::l1_index(l.data_ipa_base) == j {
-        return true;
+    for i in 0..Layout::WINDOWS {
+        if areas[i].has(j) {
+            return true;
+        }
     }
-    if Layout::l1_index(l.sup_ipa_base) == j {
-        return true;
-    }
-    let image_pa = l.guest_image_pa;
-    if present_at(image_pa.window(), j) {
-        return true;
-    }
-    present_at(l.device_window(), j)
-}
-
-fn present_at(w: Window, j: u64) -> bool
-    ensures { λ r. ⌜ r ≡ (w .present && eqb (slot w) j) ⌝ }
-{
-    if !w.present {
-        return false;
-    }
-    w.l1_index() == j
+    false
 }
 
 fn image_at(l: Layout, j: u64) -> bool

@@ -1,16 +1,17 @@
--- `live_word` meets its contract: by the presence of the window.
+-- `live_word` meets its contract: by the presence of the area.
 use Prim.Native.Nat.{_+_}
 use mathlib.Core.Path.{_≡_}
 use native.Mathlib.Omega.{arith}
 use borrow.Author.Needs.{needs}
 use borrow.Author.Tests.{not-true, not-false}
 use Rattle.refusal.specs.Table.{first}
+use Rattle.verify_rows.specs.Verifying.{liveRow}
 use Rattle.verify_tables.proofs.live_word.Statement.{statement}
 use Rattle.verify_tables.proofs.live_word.Tie as tie
 
 returns : tie.Need-returns
-unfolding first
-returns c = rw (not-true (c .before .before .args .present) (c .if1 .taken))
+unfolding first liveRow
+returns c = rw (not-true (c .before .before .before .args .area .present) (c .if1 .taken))
 
 l1-index-requires : tie.Need-l1-index-requires
 l1-index-requires c κs = search needs
@@ -22,12 +23,13 @@ table-entry-requires : tie.Need-table-entry-requires
 table-entry-requires c κs = search needs
 
 returns-2 : tie.Need-returns-2
+unfolding liveRow
 returns-2 c =
     let i = c .before .before in
     let j = i .l1-index .result in
     let at : 0 + j ≡ j = omega arith in
     rw (
-      not-false (i .before .before .before .args .present) (i .before .if1 .left),
+      not-false (i .before .before .before .before .args .area .present) (i .before .if1 .left),
       ← i .l1-index .ensures,
       at,
       ← c .before .word-at .ensures,

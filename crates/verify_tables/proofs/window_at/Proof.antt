@@ -1,89 +1,83 @@
--- `window_at` meets its contract: window by window.
-use mathlib.Core.Bool.{or-false}
-use mathlib.Core.Path.{sym}
+-- `window_at` meets its contract: an area among those from i on has the word.
+use Prim.Native.Nat.{ℕ, _+_, _-_, _<_}
+use mathlib.Core.Bool.{false, _||_}
+use mathlib.Core.List.{List}
+use mathlib.Core.Path.{_≡_, refl}
+use native.Mathlib.Numerals.{add-one}
+use native.Mathlib.Omega.{arith}
+use lib.ListN.{length, getD, drop, drop-of-length-le}
+use lib.Seq.{drop-cons}
 use borrow.Author.Needs.{needs}
-use borrow.Author.Tests.{eq-eqb, ne-eqb}
+use Rattle.layout.specs.Area.{areaHas}
+use Rattle.layout.specs.declared.Area.{Area}
+use Rattle.verify_rows.specs.Verifying.{windowAt}
 use Rattle.verify_tables.proofs.window_at.Statement.{statement}
 use Rattle.verify_tables.proofs.window_at.Tie as tie
 
-l1-index-requires : tie.Need-l1-index-requires
-l1-index-requires c κs = search needs
+abbrev Inv-loop : tie.InvT-loop
+Inv-loop j areas i₀ i = windowAt areas j ≡ windowAt (drop i areas) j
 
-returns : tie.Need-returns
-returns c = rw (← c .before .l1-index .ensures, eq-eqb _ _ (c .if1 .taken))
+abbrev μ-loop : tie.MeasureT-loop
+μ-loop j areas i₀ i = length areas - i
 
-l1-index-requires-2 : tie.Need-l1-index-requires-2
-l1-index-requires-2 c κs = search needs
+abbrev nowhere : Area
+nowhere = record { present = false; ipa = 0; table = 0 }
 
-returns-2 : tie.Need-returns-2
+here :
+    (areas : List Area) (i j : ℕ) → i < length areas →
+    windowAt (drop i areas) j ≡ (areaHas (getD areas i nowhere) j || windowAt (drop (i + 1) areas) j)
+here areas i j h = rw (add-one, drop-cons areas i nowhere)
+
+loop-holds : tie.Need-loop-holds Inv-loop μ-loop
+loop-holds c = refl
+
+mul-has : tie.Need-mul-has Inv-loop μ-loop
+mul-has c = search needs
+
+array-copy-out-has : tie.Need-array-copy-out-has Inv-loop μ-loop
+array-copy-out-has c = search needs
+
+has-requires : tie.Need-has-requires Inv-loop μ-loop
+has-requires c κs = search needs
+
+returns : tie.Need-returns Inv-loop μ-loop
+returns c =
+    let h = c .before .before .before .before in
+    let a = h .before in
+    let at = here (a .args .t1) (h .loop .i) (a .args .j) (omega (arith, a .good .0 .1 .0 .1)) in
+    rw (h .loop .inv, at, ← c .before .has .ensures, c .if1 .taken)
+
+add-i : tie.Need-add-i Inv-loop μ-loop
+add-i c = search needs
+
+loop-less : tie.Need-loop-less Inv-loop μ-loop
+loop-less c = search needs
+
+loop-again : tie.Need-loop-again Inv-loop μ-loop
+loop-again c =
+    let h = c .before .before .before .before in
+    let a = h .before in
+    let at = here (a .args .t1) (h .loop .i) (a .args .j) (omega (arith, a .good .0 .1 .0 .1)) in
+    rw (h .loop .inv, at, ← c .before .has .ensures, c .if1 .left)
+
+returns-2 : tie.Need-returns-2 Inv-loop μ-loop
 returns-2 c =
-    let e = c .before .before in
-    rw (
-      ← e .before .l1-index .ensures,
-      ne-eqb _ _ (e .if1 .left),
-      ← c .before .l1-index2 .ensures,
-      eq-eqb _ _ (c .if2 .taken),
-    )
-
-window-requires : tie.Need-window-requires
-window-requires c κs = search needs
-
-present-at-requires : tie.Need-present-at-requires
-present-at-requires c κs = search needs
-
-returns-3 : tie.Need-returns-3
-returns-3 c =
-    let p = c .before in
-    let w = p .before in
-    let s = w .before in
-    let e = s .before .before in
-    rw (
-      ← e .before .l1-index .ensures,
-      ne-eqb _ _ (e .if1 .left),
-      ← s .before .l1-index2 .ensures,
-      ne-eqb _ _ (s .if2 .left),
-      ← w .window .ensures,
-      ← p .present-at .ensures,
-      c .if3 .taken,
-    )
-
-device-window-requires : tie.Need-device-window-requires
-device-window-requires c κs = search needs
-
-present-at-requires-2 : tie.Need-present-at-requires-2
-present-at-requires-2 c κs = search needs
-
-returns-4 : tie.Need-returns-4
-returns-4 c =
-    let i = c .before .before in
-    let p = i .before in
-    let w = p .before in
-    let s = w .before in
-    let e = s .before .before in
-    rw (
-      ← e .before .l1-index .ensures,
-      ne-eqb _ _ (e .if1 .left),
-      ← s .before .l1-index2 .ensures,
-      ne-eqb _ _ (s .if2 .left),
-      ← w .window .ensures,
-      ← p .present-at .ensures,
-      i .if3 .left,
-      c .present-at2 .ensures,
-      c .before .device-window .ensures,
-    )
-    (sym (or-false _))
+    let h = c .before in
+    let a = h .before in
+    rw (h .loop .inv, drop-of-length-le (a .args .t1) {i = h .loop .i} (omega (arith, a .good .0 .1 .0 .1)))
 
 pub window-at-spec : {M : Type 1} → statement M
 window-at-spec =
     tie.close
     (tie.spec
-    l1-index-requires
+    Inv-loop
+    μ-loop
+    loop-holds
+    mul-has
+    array-copy-out-has
+    has-requires
     returns
-    l1-index-requires-2
-    returns-2
-    window-requires
-    present-at-requires
-    returns-3
-    device-window-requires
-    present-at-requires-2
-    returns-4)
+    add-i
+    loop-less
+    loop-again
+    returns-2)
