@@ -4,6 +4,7 @@ ghost use mathlib.Core.Path.{_≡_};
 ghost use Rattle.layout.specs.Area.{areasOf, liveAreasOf, areaSlot, areaHas};
 ghost use Rattle.layout.specs.Check.{check, checksOf};
 ghost use Rattle.layout.specs.Layout.{layoutOf, imageOf, tablesOf};
+ghost use Rattle.layout.specs.Size.{firstWord};
 ghost use Rattle.layout.specs.Window.{imageWindow, dataWindow, superCounted, deviceWindow, devicesOf, l1Slot, l2Slot, slot};
 
 // The address of the guest image, to which it is mapped itself; absent where a guest's code lies in its own memory.
@@ -176,6 +177,7 @@ impl Layout {
     {
         let image_pa = self.guest_image_pa;
         let image = image_pa.window();
+        let device = self.device_window();
         [
             Area {
                 present: image.present,
@@ -193,8 +195,8 @@ impl Layout {
                 table: self.l2_sup_pa,
             },
             Area {
-                present: 0 < self.device_len,
-                ipa: self.device_base,
+                present: device.present,
+                ipa: device.ipa,
                 table: self.l2_dev_pa,
             },
         ]
@@ -223,6 +225,16 @@ impl Layout {
             Check::of(5, image.present, image.ipa, Self::BLOCK_SIZE),
             Check::of(6, device.present, device.ipa, Self::BLOCK_SIZE),
         ]
+    }
+
+    // The place of a table's first word. Table 1 comes first, and nothing before it.
+    pub fn first_word(table: u32) -> usize
+        ensures { λ r. ⌜ r ≡ firstWord table ⌝ }
+    {
+        if table == 0 {
+            return 0;
+        }
+        (table as usize - 1) * Self::ENTRIES
     }
 
     // The level 1 entry of an address.

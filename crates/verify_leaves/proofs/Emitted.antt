@@ -1,10 +1,10 @@
 -- The emitted word has no row: it is read as what is wanted.
 use Prim.Native.Nat.{ℕ, _+_, _-_, _≤_}
-use mathlib.Core.Bool.{Bool, true, false, _&&_}
+use mathlib.Core.Bool.{Bool, true, false}
 use mathlib.Core.List.{[]}
 use mathlib.Core.Path.{_≡_, refl, ap, _∙_}
 use native.Mathlib.Omega.{arith}
-use lib.Dec.{leb, ltb}
+use lib.Dec.{ltb}
 use borrow.Author.Tests.{ltb-true, ltb-false, lt-ltb, le-ltb}
 use Rattle.arena.specs.Word.{pageTo, blockTo, deviceTo, leafFor}
 use Rattle.decode.proofs.Emitted.{emitted-decodes}
@@ -13,7 +13,8 @@ use Rattle.decode.specs.declared.DecodedBlock.the-variants.{Device, Nothing}
 use Rattle.desc.specs.Descriptor.{pageAddress, blockAddress}
 use Rattle.fields.specs.Named.{pick}
 use Rattle.verify_rows.proofs.Read.{held-block, page-read, block-read, no-leaf-row, no-block-row}
-use Rattle.verify_rows.specs.Verifying.{covered, wantedBlock}
+use Rattle.layout.specs.declared.Window.{Window}
+use Rattle.verify_rows.specs.Verifying.{covered, within, wantedBlock}
 use Rattle.verify_rows.specs.Word.{wantedLeaf, leafRow, blockRow}
 
 pub page-none :
@@ -33,12 +34,9 @@ device-read true x = emitted-decodes .device (blockAddress x) (held-block x)
 device-read false x = refl
 
 pub device-none :
-    (t d base len j : ℕ) →
-    d ≡ pick (leb base (covered base j) && ltb (covered base j) (base + len)) (deviceTo (covered base j)) 0 →
-    blockRow t j d (wantedBlock base len j) ≡ []
-device-none t d base len j q =
-    let x = covered base j in
-    no-block-row t j d _ (ap decodedDevice q ∙ device-read (leb base x && ltb x (base + len)) x)
+    (t d j : ℕ) (w : Window) →
+    d ≡ pick (within w (covered w j)) (deviceTo (covered w j)) 0 → blockRow t j d (wantedBlock w j) ≡ []
+device-none t d j w q = no-block-row t j d _ (ap decodedDevice q ∙ device-read (within w (covered w j)) (covered w j))
 
 -- what lies within a length of a base is less than that far from it
 pub distance : (a base len : ℕ) → base ≤ a → ltb (a - base) len ≡ ltb a (base + len)

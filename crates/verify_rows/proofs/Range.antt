@@ -7,6 +7,7 @@ use native.Mathlib.Numerals.{add-one}
 use native.Mathlib.Omega.{arith}
 use lib.Dec.{eqb}
 use borrow.Author.Tests.{eqb-true, eqb-false}
+use Rattle.refusal.proofs.Loop.{Walk}
 use Rattle.refusal.proofs.None.{both}
 use Rattle.refusal.specs.Table.{Row, accepted, first, each}
 use Rattle.verify_rows.specs.Verifying.{range}
@@ -23,6 +24,9 @@ module _ (f : ℕ → List Row) (n i : ℕ) where
   pub rest-end : n ≤ i → accepted ≡ first (each f (rest n i))
   unfolding first flatMap range
   rest-end h = let z : n - i ≡ 0 = omega (arith, h) in rw z
+
+pub rest-walk : (f : ℕ → List Row) (n : ℕ) → Walk n f (λ i. each f (rest n i))
+rest-walk f n = record { step = rest-at f n; end = rest-end f n }
 
 -- numbers with no row are passed over
 ahead :

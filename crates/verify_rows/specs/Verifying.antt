@@ -1,5 +1,5 @@
 -- Verification, by document 01: rows 1 to 12, then what is wrong in the words of the arena, in the order in which they are read.
-use Prim.Native.Nat.{ℕ, zero, suc, _+_, _-_, _*_, _/_}
+use Prim.Native.Nat.{ℕ, zero, suc, _+_, _*_, _/_}
 use mathlib.Core.Bool.{Bool, true, false, not, _&&_, _||_}
 use mathlib.Core.List.{List, [], _∷_}
 use lib.Dec.{eqb, leb, ltb}
@@ -10,17 +10,18 @@ use Rattle.decode.specs.declared.DecodedBlock.{DecodedBlock}
 use Rattle.desc.specs.Descriptor.{pageAddress, blockAddress}
 use Rattle.fields.specs.Named.{pick}
 use Rattle.layout.specs.Area.{liveAreasOf, areaSlot, areaHas}
-use Rattle.layout.specs.Size.{entries, page, block, l1Span}
-use Rattle.layout.specs.Window.{imageWindow, l2Slot}
+use Rattle.layout.specs.Size.{entries, page, block, l1Span, firstWord}
+use Rattle.layout.specs.Window.{imageWindow, deviceWindow, l2Slot}
 use Rattle.layout.specs.declared.Area.{Area}
 use Rattle.layout.specs.declared.Layout.{Layout}
+use Rattle.layout.specs.declared.Window.{Window}
 use Rattle.refusal.specs.Table.{Row, given, each, table}
 use Rattle.rows.specs.Rows.{row1, mapRows, refusals}
 use Rattle.verify_rows.specs.Word.{row18, row19, spurious, wantedLeaf, leafRow, blockRow}
 
 -- word j of table t
 abbrev pub word : List ℕ → ℕ → ℕ → ℕ
-word arena t j = getD arena ((t - 1) * entries + j) 0
+word arena t j = getD arena (firstWord t + j) 0
 
 -- n numbers from k on
 unfoldable pub range : ℕ → ℕ → List ℕ
@@ -88,30 +89,44 @@ superRow arena sup ipa pa exempt m =
     let d = word arena 5 j in
     leafRow 5 j d m (decodedBlock d) (wantedLeaf (getD sup m 0) (blockAddress (pa + m * block)) exempt)
 
--- device slot j covers this address
-abbrev pub covered : ℕ → ℕ → ℕ
-covered base j = base / l1Span * l1Span + j * block
+-- slot j of a device window covers this address
+abbrev pub covered : Window → ℕ → ℕ
+covered w j = w .ipa / l1Span * l1Span + j * block
 
--- what a device window, by base and length, wants there: itself, execute never, if it contains the address
-abbrev pub wantedBlock : ℕ → ℕ → ℕ → DecodedBlock
-wantedBlock base len j =
-    let a = covered base j in
-    pick (leb base a && ltb a (base + len)) (Device (record { pa = blockAddress a; xn = true })) Nothing
+abbrev pub within : Window → ℕ → Bool
+within w a = leb (w .ipa) a && ltb a (w .ipa + w .span)
 
--- device slot j: index j of table 6
-unfoldable pub deviceRow : List ℕ → ℕ → ℕ → ℕ → List Row
-deviceRow arena base len j = blockRow 6 j (word arena 6 j) (wantedBlock base len j)
+-- what a device window wants there: itself, execute never, if it contains the address
+abbrev pub wantedBlock : Window → ℕ → DecodedBlock
+wantedBlock w j =
+    let a = covered w j in pick (within w a) (Device (record { pa = blockAddress a; xn = true })) Nothing
 
--- what is wrong in the words: tables 1, 2 and 3, base frames, super frames, device slots
+-- device slot j: index j of the device's table
+unfoldable pub deviceRow : List ℕ → ℕ → Window → ℕ → List Row
+deviceRow arena t w j = blockRow t j (word arena t j) (wantedBlock w j)
+
+-- table 4: base frames
+abbrev pub pageRows : List ℕ → List ℕ → Layout → List Row
+pageRows arena base l = each (baseRow arena base (l .«data_pa_base»)) indices
+
+-- table 5: super frames
+abbrev pub superRows : List ℕ → List ℕ → Layout → List Row
+superRows arena sup l = each (superRow arena sup (l .«sup_ipa_base») (l .«sup_pa_base») (l .«sup_wx_exempt»)) indices
+
+-- the table of a device: its slots
+abbrev pub deviceRows : List ℕ → ℕ → Window → List Row
+deviceRows arena t w = each (deviceRow arena t w) indices
+
+-- what is wrong in the words, table by table
 unfoldable pub encodingRows : List ℕ → List ℕ → List ℕ → Layout → List Row
 encodingRows arena base sup l =
     table
     (l1Rows arena l
     ∷ imageRows arena l
     ∷ dataRows arena l
-    ∷ each (baseRow arena base (l .«data_pa_base»)) indices
-    ∷ each (superRow arena sup (l .«sup_ipa_base») (l .«sup_pa_base») (l .«sup_wx_exempt»)) indices
-    ∷ each (deviceRow arena (l .«device_base») (l .«device_len»)) indices
+    ∷ pageRows arena base l
+    ∷ superRows arena sup l
+    ∷ deviceRows arena 6 (deviceWindow l)
     ∷ [])
 
 -- the whole: 1, 2 and 3, 4 to 12, then the words; 13 and 14 are not tested here

@@ -1,22 +1,21 @@
 -- Words that are 0 have no row 21.
-use Prim.Native.Nat.{ℕ, _+_, _-_, _*_, _≤_, _<_}
+use Prim.Native.Nat.{ℕ, _≤_, _<_}
 use mathlib.Core.List.{List, []}
 use mathlib.Core.Path.{_≡_}
 use borrow.Author.Tests.{eq-eqb}
-use lib.ListN.{getD}
 use Rattle.layout.specs.Size.{entries}
 use Rattle.layout.specs.declared.Layout.{Layout}
 use Rattle.refusal.specs.Table.{each}
 use Rattle.verify_rows.proofs.Range.{rest, passed}
-use Rattle.verify_rows.specs.Verifying.{otherRow}
+use Rattle.verify_rows.specs.Verifying.{word, otherRow}
 
 module _ (arena : List ℕ) (l : Layout) (t : ℕ) where
-  zero-row : (k : ℕ) → getD arena ((t - 1) * entries + k) 0 ≡ 0 → otherRow arena l t k ≡ []
+  zero-row : (k : ℕ) → word arena t k ≡ 0 → otherRow arena l t k ≡ []
   unfolding otherRow
   zero-row k z = rw (eq-eqb _ _ z)
 
   pub zeros :
       (j r : ℕ) →
-      (j ≤ r) × (r ≤ entries) × ((k : ℕ) → k < r → j ≤ k → getD arena ((t - 1) * entries + k) 0 ≡ 0) →
+      (j ≤ r) × (r ≤ entries) × ((k : ℕ) → k < r → j ≤ k → word arena t k ≡ 0) →
       each (otherRow arena l t) (rest entries j) ≡ each (otherRow arena l t) (rest entries r)
   zeros j r w = passed (otherRow arena l t) entries j r (w .0) (w .1) (λ k lt le. zero-row k (w .2 k lt le))

@@ -3,9 +3,8 @@ use layout::Area;
 use layout::Layout;
 use refusal::Refusal;
 use refusal::Verdict;
-ghost use Prim.Native.Nat.{ℕ, _+_, _*_, _<_, _≤_};
+ghost use Prim.Native.Nat.{ℕ, _<_, _≤_};
 ghost use mathlib.Core.Path.{_≡_};
-ghost use lib.ListN.{getD};
 ghost use Rattle.layout.specs.Size.{entries};
 ghost use Rattle.layout.specs.Window.{l2Slot};
 ghost use Rattle.refusal.specs.Outcome.{outcomeOf};
@@ -45,12 +44,8 @@ fn live_word(arena: &[u64], area: Area) -> Verdict
         return Verdict::Accepted;
     }
     let index = area.l1_index();
-    verify_word::table_entry(
-        1,
-        index,
-        verify_word::word_at(arena, index as usize),
-        area.table,
-    )
+    let d = verify_word::word_at(arena, 1, index as u32);
+    verify_word::table_entry(1, index, d, area.table)
 }
 
 // Table 2. With no image every word is wanted to be 0.
@@ -73,8 +68,8 @@ fn image_word(arena: &[u64], present: bool, ipa: u64, pa: u64) -> Verdict
     if !present {
         return Verdict::Accepted;
     }
-    let at = Layout::ENTRIES + Layout::l2_index(ipa) as usize;
-    verify_word::image_block(verify_word::word_at(arena, at), pa)
+    let index = Layout::l2_index(ipa);
+    verify_word::image_block(verify_word::word_at(arena, 2, index as u32), pa)
 }
 
 // Table 3.
@@ -82,7 +77,7 @@ pub fn verify_data(arena: &[u64], l: Layout) -> Verdict
     ensures { λ r. ⌜ outcomeOf r ≡ first (dataRows (now (arena .entry)) l) ⌝ }
 {
     let index = Layout::l2_index(l.data_ipa_base);
-    let d = verify_word::word_at(arena, 2 * Layout::ENTRIES + index as usize);
+    let d = verify_word::word_at(arena, 3, index as u32);
     let pages = verify_word::table_entry(3, index, d, l.l3_data_pa);
     let Verdict::Accepted = pages else {
         return pages;
@@ -91,15 +86,12 @@ pub fn verify_data(arena: &[u64], l: Layout) -> Verdict
 }
 
 // Row 21 of one of tables 1 to 3. Most words are 0, and for those no slot is worked out.
-fn other_words(arena: &[u64], l: Layout, table: usize) -> Verdict
-    requires { ⌜ 0 < table ⌝ }
-    requires { ⌜ table ≤ 3 ⌝ }
+fn other_words(arena: &[u64], l: Layout, table: u32) -> Verdict
     ensures { λ r. ⌜ outcomeOf r ≡ first (otherRows (now (arena .entry)) l table) ⌝ }
 {
-    let from = (table - 1) * Layout::ENTRIES;
-    let mut j = past_zeros(arena, from, 0);
+    let mut j = past_zeros(arena, table, 0);
     while j < Layout::ENTRIES {
-        let desc = verify_word::word_at(arena, from + j);
+        let desc = verify_word::word_at(arena, table, j as u32);
         if desc != 0 {
             if !live_at(l, table, j as u64) {
                 return Verdict::Refused(Refusal::SpuriousDescriptor {
@@ -109,17 +101,17 @@ fn other_words(arena: &[u64], l: Layout, table: usize) -> Verdict
                 });
             }
         }
-        j = past_zeros(arena, from, j + 1);
+        j = past_zeros(arena, table, j + 1);
     }
     Verdict::Accepted
 }
 
 // An index up to which the words of a table, from j on, are 0. It works out no slot, and takes four words a turn.
-fn past_zeros(arena: &[u64], from: usize, j: usize) -> usize
-    requires { ⌜ from ≤ 2 * entries ⌝ }
+fn past_zeros(arena: &[u64], table: u32, j: usize) -> usize
     requires { ⌜ j ≤ entries ⌝ }
-    ensures { λ r. ⌜ (j ≤ r) × (r ≤ entries) × ((k : ℕ) → k < r → j ≤ k → getD (now (arena .entry)) (from + k) 0 ≡ 0) ⌝ }
+    ensures { λ r. ⌜ (j ≤ r) × (r ≤ entries) × ((k : ℕ) → k < r → j ≤ k → word (now (arena .entry)) table k ≡ 0) ⌝ }
 {
+    let from = Layout::first_word(table);
     // A short arena is read word by word.
     if arena.len() < from + Layout::ENTRIES {
         return j;
@@ -144,7 +136,7 @@ fn past_zeros(arena: &[u64], from: usize, j: usize) -> usize
 }
 
 // Whether a word of one of tables 1 to 3 is wanted.
-fn live_at(l: Layout, table: usize, j: u64) -> bool
+fn live_at(l: Layout, table: u32, j: u64) -> bool
     ensures { λ r. ⌜ r ≡ liveAt l table j ⌝ }
 {
     match table {

@@ -1,13 +1,15 @@
 -- `verify_words` meets its contract: table by table, an accepting one is passed over, a refusing one decides.
 use Prim.Native.Nat.{ℕ}
 use mathlib.Core.List.{List, [], _∷_, flatMap}
-use mathlib.Core.Path.{_≡_, _∙_, refl, sym}
+use mathlib.Core.Path.{_≡_, _∙_, refl, sym, ap}
 use lib.ListN.{drop}
 use borrow.Author.Needs.{needs}
 use denote.Ref.{now}
+use Rattle.layout.specs.Window.{deviceWindow}
+use Rattle.layout.specs.declared.Window.{Window}
 use Rattle.refusal.proofs.First.{next, stop, last}
-use Rattle.refusal.specs.Table.{Row, first, each, table}
-use Rattle.verify_rows.specs.Verifying.{indices, l1Rows, imageRows, dataRows, baseRow, superRow, deviceRow, encodingRows}
+use Rattle.refusal.specs.Table.{Row, first, table}
+use Rattle.verify_rows.specs.Verifying.{l1Rows, imageRows, dataRows, pageRows, superRows, deviceRows, encodingRows}
 use Rattle.verify.proofs.verify_words.Statement.{statement}
 use Rattle.verify.proofs.verify_words.Tie as tie
 
@@ -19,9 +21,9 @@ tableRows s =
     l1Rows arena l
     ∷ imageRows arena l
     ∷ dataRows arena l
-    ∷ each (baseRow arena (now (s .args .base)) (l .«data_pa_base»)) indices
-    ∷ each (superRow arena (now (s .args .sup)) (l .«sup_ipa_base») (l .«sup_pa_base») (l .«sup_wx_exempt»)) indices
-    ∷ each (deviceRow arena (l .«device_base») (l .«device_len»)) indices
+    ∷ pageRows arena (now (s .args .base)) l
+    ∷ superRows arena (now (s .args .sup)) l
+    ∷ deviceRows arena 6 (deviceWindow l)
     ∷ []
 
 -- the first row is among those of the tables that are left
@@ -154,12 +156,20 @@ returns-5 c =
     let refused = c .enum-told10 .given in
     stop _ _ (v .verify-super .result) (refused .0 .0) refl (refused .1) (v .verify-super .ensures) ∙ sym (past-4 (v .before))
 
+device-window-requires : tie.Need-device-window-requires
+device-window-requires c κs = search needs
+
 verify-device-requires : tie.Need-verify-device-requires
 verify-device-requires c κs = search needs
 
 returns-6 : tie.Need-returns-6
 unfolding flatMap
-returns-6 c = last _ (c .verify-device .result) refl (c .verify-device .ensures) ∙ sym (past-5 (c .before))
+returns-6 c =
+    let w = c .before in
+    let arena = now (at5 (w .before) .args .arena) in
+    let found =
+    c .verify-device .ensures ∙ ap (λ (d : Window). first (deviceRows arena 6 d)) (w .device-window .ensures) in
+    last _ (c .verify-device .result) refl found ∙ sym (past-5 (w .before))
 
 pub verify-words-spec : {M : Type 1} → statement M
 verify-words-spec =
@@ -185,5 +195,6 @@ verify-words-spec =
     enum-told-9
     enum-told-10
     returns-5
+    device-window-requires
     verify-device-requires
     returns-6)

@@ -4,11 +4,8 @@ use Rattle.verify_rows.specs.Verifying.{baseRow}
 use Rattle.verify_leaves.proofs.base_frame.Statement.{statement}
 use Rattle.verify_leaves.proofs.base_frame.Tie as tie
 
-mul-word-at : tie.Need-mul-word-at
-mul-word-at c = search needs
-
-add-word-at : tie.Need-add-word-at
-add-word-at c = search needs
+cast-word-at : tie.Need-cast-word-at
+cast-word-at c = search needs
 
 word-at-requires : tie.Need-word-at-requires
 word-at-requires c κs = search needs
@@ -51,8 +48,7 @@ pub base-frame-spec : {M : Type 1} → statement M
 base-frame-spec =
     tie.close
     (tie.spec
-    mul-word-at
-    add-word-at
+    cast-word-at
     word-at-requires
     entry-at-requires
     cast-page-address

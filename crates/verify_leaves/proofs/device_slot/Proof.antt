@@ -4,11 +4,8 @@ use borrow.Author.Needs.{needs}
 use Rattle.verify_leaves.proofs.device_slot.Statement.{statement}
 use Rattle.verify_leaves.proofs.device_slot.Tie as tie
 
-mul-word-at : tie.Need-mul-word-at
-mul-word-at c = search needs
-
-add-word-at : tie.Need-add-word-at
-add-word-at c = search needs
+cast-word-at : tie.Need-cast-word-at
+cast-word-at c = search needs
 
 word-at-requires : tie.Need-word-at-requires
 word-at-requires c κs = search needs
@@ -29,8 +26,7 @@ pub device-slot-spec : {M : Type 1} → statement M
 device-slot-spec =
     tie.close
     (tie.spec
-    mul-word-at
-    add-word-at
+    cast-word-at
     word-at-requires
     wanted-block-requires
     device-block-requires

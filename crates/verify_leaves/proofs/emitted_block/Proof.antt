@@ -4,14 +4,8 @@ use borrow.Author.Needs.{needs}
 use Rattle.verify_leaves.proofs.emitted_block.Statement.{statement}
 use Rattle.verify_leaves.proofs.emitted_block.Tie as tie
 
-mul-a : tie.Need-mul-a
-mul-a c = search needs
-
-mul-a-2 : tie.Need-mul-a-2
-mul-a-2 c = search needs
-
-add-a : tie.Need-add-a
-add-a c = search needs
+covered-requires : tie.Need-covered-requires
+covered-requires c κs = search needs
 
 is-within-requires : tie.Need-is-within-requires
 is-within-requires c κs = search needs
@@ -20,12 +14,15 @@ device-word-requires : tie.Need-device-word-requires
 device-word-requires c κs = search needs
 
 returns : tie.Need-returns
-returns c = let t = c .before in rw (← t .before .is-within .ensures, t .if1 .taken) (omega (arith, c .device-word .ensures))
+returns c =
+    let t = c .before in
+    let i = t .before in
+    rw (← i .before .covered .ensures, ← i .is-within .ensures, t .if1 .taken) (omega (arith, c .device-word .ensures))
 
 returns-2 : tie.Need-returns-2
-returns-2 c = rw (← c .before .is-within .ensures, c .if1 .left)
+returns-2 c = let i = c .before in rw (← i .before .covered .ensures, ← i .is-within .ensures, c .if1 .left)
 
 pub emitted-block-spec : {M : Type 1} → statement M
 emitted-block-spec =
     tie.close
-    (tie.spec mul-a mul-a-2 add-a is-within-requires device-word-requires returns returns-2)
+    (tie.spec covered-requires is-within-requires device-word-requires returns returns-2)

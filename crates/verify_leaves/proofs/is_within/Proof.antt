@@ -8,7 +8,7 @@ returns : tie.Need-returns
 returns c = rw (lt-leb _ _ (c .if1 .taken))
 
 returns-2 : tie.Need-returns-2
-returns-2 c = rw (le-leb _ _ (c .if1 .left)) (distance _ _ _ (c .if1 .left))
+returns-2 c = let e = c .before .before .if1 in rw (le-leb _ _ (e .left)) (distance _ _ _ (e .left))
 
 pub is-within-spec : {M : Type 1} → statement M
 is-within-spec = tie.close (tie.spec returns returns-2)

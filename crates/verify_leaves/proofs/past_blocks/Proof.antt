@@ -14,19 +14,22 @@ use Rattle.verify_leaves.proofs.past_blocks.Statement.{statement}
 use Rattle.verify_leaves.proofs.past_blocks.Tie as tie
 
 abbrev Inv-loop : tie.InvT-loop
-Inv-loop arena sup ipa pa exempt m₀ m = (m ≤ entries) × ((k : ℕ) → k < m → superRow arena sup ipa pa exempt k ≡ [])
+Inv-loop arena sup ipa pa exempt from m₀ m = (m ≤ entries) × ((k : ℕ) → k < m → superRow arena sup ipa pa exempt k ≡ [])
 
 abbrev μ-loop : tie.MeasureT-loop
-μ-loop arena sup ipa pa exempt m₀ m = entries - m
+μ-loop arena sup ipa pa exempt from m₀ m = entries - m
+
+first-word-requires : tie.Need-first-word-requires Inv-loop μ-loop
+first-word-requires c κs = search needs
+
+add-if1 : tie.Need-add-if1 Inv-loop μ-loop
+add-if1 c = search needs
 
 returns : tie.Need-returns Inv-loop μ-loop
 returns c = (omega arith, λ k lt. absurd (not-suc-le-zero lt))
 
 loop-holds : tie.Need-loop-holds Inv-loop μ-loop
 loop-holds c = (omega arith, λ k lt. absurd (not-suc-le-zero lt))
-
-mul-at : tie.Need-mul-at Inv-loop μ-loop
-mul-at c = search needs
 
 super-index-requires : tie.Need-super-index-requires Inv-loop μ-loop
 super-index-requires c κs = search needs
@@ -65,10 +68,11 @@ loop-again c =
     let entry = emitted .before in
     let slot = entry .before .before in
     let h = slot .before .before in
-    let a = h .before .before .before .before .args in
+    let e = h .before .before in
+    let a = e .before .before .before .args in
     let row = superRow (now (a .arena)) (now (a .sup)) (a .ipa) (a .pa) (a .exempt) in
     let here : row (h .loop .m) ≡ [] =
-    rw (← slot .super-index .ensures, ← entry .entry-at .ensures)
+    rw (← e .first-word .ensures, ← slot .super-index .ensures, ← entry .entry-at .ensures)
     (block-none _ _ _ _ (entry .entry-at .result) (a .pa + h .loop .m * block) (a .exempt) (c .if2 .left ∙ emitted .block-word .ensures)) in
     (omega arith, below-next (λ k. row k ≡ []) (h .loop .m) (h .loop .inv .1) here)
 
@@ -83,9 +87,10 @@ past-blocks-spec =
     (tie.spec
     Inv-loop
     μ-loop
+    first-word-requires
+    add-if1
     returns
     loop-holds
-    mul-at
     super-index-requires
     add-at
     mul-d

@@ -14,10 +14,16 @@ use Rattle.verify_leaves.proofs.past_devices.Statement.{statement}
 use Rattle.verify_leaves.proofs.past_devices.Tie as tie
 
 abbrev Inv-loop : tie.InvT-loop
-Inv-loop arena base len j₀ j = (j ≤ entries) × ((k : ℕ) → k < j → deviceRow arena base len k ≡ [])
+Inv-loop arena table w from j₀ j = (j ≤ entries) × ((k : ℕ) → k < j → deviceRow arena table w k ≡ [])
 
 abbrev μ-loop : tie.MeasureT-loop
-μ-loop arena base len j₀ j = entries - j
+μ-loop arena table w from j₀ j = entries - j
+
+first-word-requires : tie.Need-first-word-requires Inv-loop μ-loop
+first-word-requires c κs = search needs
+
+add-if1 : tie.Need-add-if1 Inv-loop μ-loop
+add-if1 c = search needs
 
 returns : tie.Need-returns Inv-loop μ-loop
 returns c = (omega arith, λ k lt. absurd (not-suc-le-zero lt))
@@ -25,14 +31,11 @@ returns c = (omega arith, λ k lt. absurd (not-suc-le-zero lt))
 loop-holds : tie.Need-loop-holds Inv-loop μ-loop
 loop-holds c = (omega arith, λ k lt. absurd (not-suc-le-zero lt))
 
-mul-d : tie.Need-mul-d Inv-loop μ-loop
-mul-d c = search needs
-
 add-d : tie.Need-add-d Inv-loop μ-loop
 add-d c = search needs
 
-mul-d-2 : tie.Need-mul-d-2 Inv-loop μ-loop
-mul-d-2 c = search needs
+mul-d : tie.Need-mul-d Inv-loop μ-loop
+mul-d c = search needs
 
 shared-slice-read-d : tie.Need-shared-slice-read-d Inv-loop μ-loop
 shared-slice-read-d c = search needs
@@ -54,10 +57,12 @@ unfolding deviceRow
 loop-again c =
     let emitted = c .before in
     let h = emitted .before .before .before in
-    let a = h .before .before .before .args in
-    let row = deviceRow (now (a .arena)) (a .base) (a .len) in
+    let e = h .before .before in
+    let a = e .before .before .args in
+    let row = deviceRow (now (a .arena)) (a .table) (a .w) in
     let j = h .loop .j in
-    let here : row j ≡ [] = device-none _ _ (a .base) (a .len) j (c .if2 .left ∙ emitted .emitted-block .ensures) in
+    let here : row j ≡ [] =
+    rw (← e .first-word .ensures) (device-none _ _ j (a .w) (c .if2 .left ∙ emitted .emitted-block .ensures)) in
     (omega arith, below-next (λ k. row k ≡ []) j (h .loop .inv .1) here)
 
 returns-3 : tie.Need-returns-3 Inv-loop μ-loop
@@ -71,11 +76,12 @@ past-devices-spec =
     (tie.spec
     Inv-loop
     μ-loop
+    first-word-requires
+    add-if1
     returns
     loop-holds
-    mul-d
     add-d
-    mul-d-2
+    mul-d
     shared-slice-read-d
     emitted-block-requires
     returns-2

@@ -14,10 +14,16 @@ use Rattle.verify_leaves.proofs.past_pages.Statement.{statement}
 use Rattle.verify_leaves.proofs.past_pages.Tie as tie
 
 abbrev Inv-loop : tie.InvT-loop
-Inv-loop arena base pa m₀ m = (m ≤ entries) × ((k : ℕ) → k < m → baseRow arena base pa k ≡ [])
+Inv-loop arena base pa from m₀ m = (m ≤ entries) × ((k : ℕ) → k < m → baseRow arena base pa k ≡ [])
 
 abbrev μ-loop : tie.MeasureT-loop
-μ-loop arena base pa m₀ m = entries - m
+μ-loop arena base pa from m₀ m = entries - m
+
+first-word-requires : tie.Need-first-word-requires Inv-loop μ-loop
+first-word-requires c κs = search needs
+
+add-if1 : tie.Need-add-if1 Inv-loop μ-loop
+add-if1 c = search needs
 
 returns : tie.Need-returns Inv-loop μ-loop
 returns c = (omega arith, λ k lt. absurd (not-suc-le-zero lt))
@@ -25,14 +31,11 @@ returns c = (omega arith, λ k lt. absurd (not-suc-le-zero lt))
 loop-holds : tie.Need-loop-holds Inv-loop μ-loop
 loop-holds c = (omega arith, λ k lt. absurd (not-suc-le-zero lt))
 
-mul-d : tie.Need-mul-d Inv-loop μ-loop
-mul-d c = search needs
-
 add-d : tie.Need-add-d Inv-loop μ-loop
 add-d c = search needs
 
-mul-d-2 : tie.Need-mul-d-2 Inv-loop μ-loop
-mul-d-2 c = search needs
+mul-d : tie.Need-mul-d Inv-loop μ-loop
+mul-d c = search needs
 
 shared-slice-read-d : tie.Need-shared-slice-read-d Inv-loop μ-loop
 shared-slice-read-d c = search needs
@@ -61,10 +64,11 @@ loop-again c =
     let word = c .before in
     let entry = word .before in
     let h = entry .before .before .before in
-    let a = h .before .before .before .before .args in
+    let e = h .before .before in
+    let a = e .before .before .before .args in
     let row = baseRow (now (a .arena)) (now (a .base)) (a .pa) in
     let here : row (h .loop .m) ≡ [] =
-    rw (← entry .entry-at .ensures)
+    rw (← e .first-word .ensures, ← entry .entry-at .ensures)
     (page-none _ _ _ _ (entry .entry-at .result) (a .pa + h .loop .m * page) (c .if2 .left ∙ word .page-word .ensures)) in
     (omega arith, below-next (λ k. row k ≡ []) (h .loop .m) (h .loop .inv .1) here)
 
@@ -79,11 +83,12 @@ past-pages-spec =
     (tie.spec
     Inv-loop
     μ-loop
+    first-word-requires
+    add-if1
     returns
     loop-holds
-    mul-d
     add-d
-    mul-d-2
+    mul-d
     shared-slice-read-d
     entry-at-requires
     cast-page-word

@@ -7,11 +7,8 @@ use Rattle.verify_leaves.proofs.super_frame.Tie as tie
 super-index-requires : tie.Need-super-index-requires
 super-index-requires c κs = search needs
 
-mul-word-at : tie.Need-mul-word-at
-mul-word-at c = search needs
-
-add-word-at : tie.Need-add-word-at
-add-word-at c = search needs
+cast-word-at : tie.Need-cast-word-at
+cast-word-at c = search needs
 
 word-at-requires : tie.Need-word-at-requires
 word-at-requires c κs = search needs
@@ -57,8 +54,7 @@ super-frame-spec =
     tie.close
     (tie.spec
     super-index-requires
-    mul-word-at
-    add-word-at
+    cast-word-at
     word-at-requires
     entry-at-requires
     cast-block-address

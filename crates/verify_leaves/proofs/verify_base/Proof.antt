@@ -1,14 +1,14 @@
 -- `verify_base` meets its contract: the first row is that of the frames from m on.
 use Prim.Native.Nat.{_-_}
-use mathlib.Core.Path.{_≡_, sym, ap, _∙_}
+use mathlib.Core.Path.{_≡_, ap}
 use native.Mathlib.Omega.{arith}
 use borrow.Author.Needs.{needs}
 use denote.Ref.{now}
 use Rattle.layout.specs.Size.{entries}
-use Rattle.refusal.proofs.First.{next, stop}
+use Rattle.refusal.proofs.Loop.{refuses, passes, ends}
 use Rattle.refusal.specs.Table.{first, each}
 use Rattle.verify_rows.specs.Verifying.{indices, baseRow}
-use Rattle.verify_rows.proofs.Range.{rest, rest-at, rest-end, passed}
+use Rattle.verify_rows.proofs.Range.{rest, rest-walk, passed}
 use Rattle.verify_leaves.proofs.verify_base.Statement.{statement}
 use Rattle.verify_leaves.proofs.verify_base.Tie as tie
 
@@ -42,9 +42,7 @@ returns : tie.Need-returns Inv-loop μ-loop
 returns c =
     let v = c .before .before in
     let h = v .before .before in
-    let here = rest-at _ entries (h .loop .m) (v .before .loop-test .taken) in
-    let refused = c .enum-told2 .given in
-    stop _ _ (v .base-frame .result) (refused .0 .0) here (refused .1) (v .base-frame .ensures) ∙ sym (h .loop .inv)
+    refuses (rest-walk _ entries) (h .loop .m) (h .loop .inv) (v .before .loop-test .taken) (c .enum-told2 .given .1) (v .base-frame .ensures)
 
 add-m : tie.Need-add-m Inv-loop μ-loop
 add-m c = search needs
@@ -56,11 +54,10 @@ loop-again : tie.Need-loop-again Inv-loop μ-loop
 loop-again c =
     let v = c .before .before in
     let h = v .before .before in
-    let here = rest-at _ entries (h .loop .m) (v .before .loop-test .taken) in
-    h .loop .inv ∙ next _ _ (v .base-frame .result) here (c .enum-told .given .1) (v .base-frame .ensures)
+    passes (rest-walk _ entries) (h .loop .m) (h .loop .inv) (v .before .loop-test .taken) (c .enum-told .given .1) (v .base-frame .ensures)
 
 returns-2 : tie.Need-returns-2 Inv-loop μ-loop
-returns-2 c = let h = c .before in rest-end _ entries (h .loop .m) (c .loop-test .left) ∙ sym (h .loop .inv)
+returns-2 c = let h = c .before in ends (rest-walk _ entries) (h .loop .m) (h .loop .inv) (c .loop-test .left)
 
 pub verify-base-spec : {M : Type 1} → statement M
 verify-base-spec =

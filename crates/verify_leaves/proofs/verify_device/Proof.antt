@@ -1,22 +1,22 @@
 -- `verify_device` meets its contract: the first row is that of the slots from j on.
 use Prim.Native.Nat.{_-_}
-use mathlib.Core.Path.{_≡_, sym, ap, _∙_}
+use mathlib.Core.Path.{_≡_, ap}
 use native.Mathlib.Omega.{arith}
 use borrow.Author.Needs.{needs}
 use denote.Ref.{now}
 use Rattle.layout.specs.Size.{entries}
-use Rattle.refusal.proofs.First.{next, stop}
+use Rattle.refusal.proofs.Loop.{refuses, passes, ends}
 use Rattle.refusal.specs.Table.{first, each}
-use Rattle.verify_rows.specs.Verifying.{indices, deviceRow}
-use Rattle.verify_rows.proofs.Range.{rest, rest-at, rest-end, passed}
+use Rattle.verify_rows.specs.Verifying.{deviceRow, deviceRows}
+use Rattle.verify_rows.proofs.Range.{rest, rest-walk, passed}
 use Rattle.verify_leaves.proofs.verify_device.Statement.{statement}
 use Rattle.verify_leaves.proofs.verify_device.Tie as tie
 
 abbrev Inv-loop : tie.InvT-loop
-Inv-loop arena base len j₀ j = first (each (deviceRow arena base len) indices) ≡ first (each (deviceRow arena base len) (rest entries j))
+Inv-loop arena table w j₀ j = first (deviceRows arena table w) ≡ first (each (deviceRow arena table w) (rest entries j))
 
 abbrev μ-loop : tie.MeasureT-loop
-μ-loop arena base len j₀ j = entries - j
+μ-loop arena table w j₀ j = entries - j
 
 past-devices-requires : tie.Need-past-devices-requires Inv-loop μ-loop
 past-devices-requires c κs = search needs
@@ -26,7 +26,7 @@ loop-holds c =
     let a = c .before .before .args in
     let past = c .past-devices .ensures in
     ap first
-    (passed (deviceRow (now (a .arena)) (a .base) (a .len)) entries 0 (c .past-devices .result) (omega arith) (past .0)
+    (passed (deviceRow (now (a .arena)) (a .table) (a .w)) entries 0 (c .past-devices .result) (omega arith) (past .0)
     (λ k lt le. past .1 k lt))
 
 device-slot-requires : tie.Need-device-slot-requires Inv-loop μ-loop
@@ -42,9 +42,7 @@ returns : tie.Need-returns Inv-loop μ-loop
 returns c =
     let v = c .before .before in
     let h = v .before .before in
-    let here = rest-at _ entries (h .loop .j) (v .before .loop-test .taken) in
-    let refused = c .enum-told2 .given in
-    stop _ _ (v .device-slot .result) (refused .0 .0) here (refused .1) (v .device-slot .ensures) ∙ sym (h .loop .inv)
+    refuses (rest-walk _ entries) (h .loop .j) (h .loop .inv) (v .before .loop-test .taken) (c .enum-told2 .given .1) (v .device-slot .ensures)
 
 add-j : tie.Need-add-j Inv-loop μ-loop
 add-j c = search needs
@@ -56,11 +54,10 @@ loop-again : tie.Need-loop-again Inv-loop μ-loop
 loop-again c =
     let v = c .before .before in
     let h = v .before .before in
-    let here = rest-at _ entries (h .loop .j) (v .before .loop-test .taken) in
-    h .loop .inv ∙ next _ _ (v .device-slot .result) here (c .enum-told .given .1) (v .device-slot .ensures)
+    passes (rest-walk _ entries) (h .loop .j) (h .loop .inv) (v .before .loop-test .taken) (c .enum-told .given .1) (v .device-slot .ensures)
 
 returns-2 : tie.Need-returns-2 Inv-loop μ-loop
-returns-2 c = let h = c .before in rest-end _ entries (h .loop .j) (c .loop-test .left) ∙ sym (h .loop .inv)
+returns-2 c = let h = c .before in ends (rest-walk _ entries) (h .loop .j) (h .loop .inv) (c .loop-test .left)
 
 pub verify-device-spec : {M : Type 1} → statement M
 verify-device-spec =

@@ -12,8 +12,8 @@ returns c = rw (not-true (c .before .before .args .present) (c .if1 .taken))
 l2-index-requires : tie.Need-l2-index-requires
 l2-index-requires c κs = search needs
 
-add-at : tie.Need-add-at
-add-at c = search needs
+cast-word-at : tie.Need-cast-word-at
+cast-word-at c = search needs
 
 word-at-requires : tie.Need-word-at-requires
 word-at-requires c κs = search needs
@@ -34,4 +34,4 @@ returns-2 c =
 pub image-word-spec : {M : Type 1} → statement M
 image-word-spec =
     tie.close
-    (tie.spec returns l2-index-requires add-at word-at-requires image-block-requires returns-2)
+    (tie.spec returns l2-index-requires cast-word-at word-at-requires image-block-requires returns-2)

@@ -1,7 +1,4 @@
 -- `live_word` meets its contract: by the presence of the area.
-use Prim.Native.Nat.{_+_}
-use mathlib.Core.Path.{_≡_}
-use native.Mathlib.Omega.{arith}
 use borrow.Author.Needs.{needs}
 use borrow.Author.Tests.{not-true, not-false}
 use Rattle.refusal.specs.Table.{first}
@@ -16,6 +13,9 @@ returns c = rw (not-true (c .before .before .before .args .area .present) (c .if
 l1-index-requires : tie.Need-l1-index-requires
 l1-index-requires c κs = search needs
 
+cast-word-at : tie.Need-cast-word-at
+cast-word-at c = search needs
+
 word-at-requires : tie.Need-word-at-requires
 word-at-requires c κs = search needs
 
@@ -26,16 +26,13 @@ returns-2 : tie.Need-returns-2
 unfolding liveRow
 returns-2 c =
     let i = c .before .before in
-    let j = i .l1-index .result in
-    let at : 0 + j ≡ j = omega arith in
     rw (
       not-false (i .before .before .before .before .args .area .present) (i .before .if1 .left),
       ← i .l1-index .ensures,
-      at,
       ← c .before .word-at .ensures,
     )
     (c .table-entry .ensures)
 
 pub live-word-spec : {M : Type 1} → statement M
 live-word-spec =
-    tie.close (tie.spec returns l1-index-requires word-at-requires table-entry-requires returns-2)
+    tie.close (tie.spec returns l1-index-requires cast-word-at word-at-requires table-entry-requires returns-2)

@@ -14,16 +14,10 @@ use Rattle.verify_tables.proofs.other_words.Statement.{statement}
 use Rattle.verify_tables.proofs.other_words.Tie as tie
 
 abbrev Inv-loop : tie.InvT-loop
-Inv-loop arena l table from j₀ j = first (otherRows arena l table) ≡ first (each (otherRow arena l table) (rest entries j))
+Inv-loop arena l table j₀ j = first (otherRows arena l table) ≡ first (each (otherRow arena l table) (rest entries j))
 
 abbrev μ-loop : tie.MeasureT-loop
-μ-loop arena l table from j₀ j = entries - j
-
-sub-from : tie.Need-sub-from Inv-loop μ-loop
-sub-from c = search needs
-
-mul-from : tie.Need-mul-from Inv-loop μ-loop
-mul-from c = search needs
+μ-loop arena l table j₀ j = entries - j
 
 past-zeros-requires : tie.Need-past-zeros-requires Inv-loop μ-loop
 past-zeros-requires c κs = search needs
@@ -33,8 +27,8 @@ loop-holds c =
     let a = c .before .before .args in
     ap first (zeros (now (a .arena)) (a .l) (a .table) 0 (c .past-zeros .result) (c .past-zeros .ensures))
 
-add-word-at : tie.Need-add-word-at Inv-loop μ-loop
-add-word-at c = search needs
+cast-word-at : tie.Need-cast-word-at Inv-loop μ-loop
+cast-word-at c = search needs
 
 word-at-requires : tie.Need-word-at-requires Inv-loop μ-loop
 word-at-requires c κs = search needs
@@ -102,11 +96,9 @@ other-words-spec =
     (tie.spec
     Inv-loop
     μ-loop
-    sub-from
-    mul-from
     past-zeros-requires
     loop-holds
-    add-word-at
+    cast-word-at
     word-at-requires
     live-at-requires
     returns

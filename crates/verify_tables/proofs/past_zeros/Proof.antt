@@ -7,14 +7,18 @@ use borrow.Author.Needs.{needs}
 use denote.Ref.{now}
 use Rattle.fields.proofs.Below.{below-next}
 use Rattle.layout.specs.Size.{entries}
+use Rattle.verify_rows.specs.Verifying.{word}
 use Rattle.verify_tables.proofs.past_zeros.Statement.{statement}
 use Rattle.verify_tables.proofs.past_zeros.Tie as tie
 
 abbrev Inv-loop : tie.InvT-loop
-Inv-loop arena from j k₀ k = (j ≤ k) × (k ≤ entries) × ((i : ℕ) → i < k → j ≤ i → getD arena (from + i) 0 ≡ 0)
+Inv-loop arena table j from k₀ k = (j ≤ k) × (k ≤ entries) × ((i : ℕ) → i < k → j ≤ i → word arena table i ≡ 0)
 
 abbrev μ-loop : tie.MeasureT-loop
-μ-loop arena from j k₀ k = entries - k
+μ-loop arena table j from k₀ k = entries - k
+
+first-word-requires : tie.Need-first-word-requires Inv-loop μ-loop
+first-word-requires c κs = search needs
 
 add-if1 : tie.Need-add-if1 Inv-loop μ-loop
 add-if1 c = search needs
@@ -97,13 +101,17 @@ loop-again c =
     let second = third .before .before in
     let first = second .before .before in
     let h = first .before .before .before in
-    let a = h .before .before .args in
+    let e = h .before .before in
+    let a = e .before .before .args in
     let k = h .loop .k in
-    let P : ℕ → Type 0 = λ i. a .j ≤ i → getD (now (a .arena)) (a .from + i) 0 ≡ 0 in
-    let one = below-next P k (h .loop .inv .2) (λ le. first .if2 .left) in
-    let two = below-next P (k + 1) one (λ le. second .if3 .left) in
-    let three = below-next P (k + 2) (λ i lt. two i (omega (arith, lt))) (λ le. third .if4 .left) in
-    let four = below-next P (k + 3) (λ i lt. three i (omega (arith, lt))) (λ le. c .if5 .left) in
+    let from = e .first-word .result in
+    let at : (i : ℕ) → getD (now (a .arena)) (from + i) 0 ≡ 0 → word (now (a .arena)) (a .table) i ≡ 0 =
+    λ i z. rw (← e .first-word .ensures) z in
+    let P : ℕ → Type 0 = λ i. a .j ≤ i → word (now (a .arena)) (a .table) i ≡ 0 in
+    let one = below-next P k (h .loop .inv .2) (λ le. at k (first .if2 .left)) in
+    let two = below-next P (k + 1) one (λ le. at (k + 1) (second .if3 .left)) in
+    let three = below-next P (k + 2) (λ i lt. two i (omega (arith, lt))) (λ le. at (k + 2) (third .if4 .left)) in
+    let four = below-next P (k + 3) (λ i lt. three i (omega (arith, lt))) (λ le. at (k + 3) (c .if5 .left)) in
     (omega arith, omega arith, λ i lt. four i (omega (arith, lt)))
 
 returns-6 : tie.Need-returns-6 Inv-loop μ-loop
@@ -115,6 +123,7 @@ past-zeros-spec =
     (tie.spec
     Inv-loop
     μ-loop
+    first-word-requires
     add-if1
     returns
     loop-holds

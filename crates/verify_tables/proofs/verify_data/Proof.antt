@@ -23,11 +23,8 @@ found c =
 l2-index-requires : tie.Need-l2-index-requires
 l2-index-requires c κs = search needs
 
-mul-word-at : tie.Need-mul-word-at
-mul-word-at c = search needs
-
-add-word-at : tie.Need-add-word-at
-add-word-at c = search needs
+cast-word-at : tie.Need-cast-word-at
+cast-word-at c = search needs
 
 word-at-requires : tie.Need-word-at-requires
 word-at-requires c κs = search needs
@@ -63,8 +60,7 @@ verify-data-spec =
     tie.close
     (tie.spec
     l2-index-requires
-    mul-word-at
-    add-word-at
+    cast-word-at
     word-at-requires
     table-entry-requires
     enum-told
