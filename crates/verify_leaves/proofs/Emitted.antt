@@ -8,24 +8,24 @@ use lib.Dec.{ltb}
 use borrow.Author.Tests.{ltb-true, ltb-false, lt-ltb, le-ltb}
 use Rattle.arena.specs.Word.{pageTo, blockTo, deviceTo, leafFor}
 use Rattle.decode.proofs.Emitted.{emitted-decodes}
-use Rattle.decode.specs.Decoded.{decodedPage, decodedBlock, decodedDevice}
+use Rattle.decode.specs.Decoded.{decodedDevice}
 use Rattle.decode.specs.declared.DecodedBlock.the-variants.{Device, Nothing}
 use Rattle.desc.specs.Descriptor.{pageAddress, blockAddress}
 use Rattle.fields.specs.Named.{pick}
 use Rattle.verify_rows.proofs.Read.{held-block, page-read, block-read, no-leaf-row, no-block-row}
 use Rattle.layout.specs.declared.Window.{Window}
 use Rattle.verify_rows.specs.Verifying.{covered, within, wantedBlock}
-use Rattle.verify_rows.specs.Word.{wantedLeaf, leafRow, blockRow}
+use Rattle.verify_rows.specs.Word.{readPage, readBlock, wantedLeaf, leafRow, blockRow}
 
 pub page-none :
     (t j d m e x : ℕ) →
-    d ≡ leafFor e (pageTo x) → leafRow t j d m (decodedPage d) (wantedLeaf e (pageAddress x) false) ≡ []
-page-none t j d m e x q = no-leaf-row t j d m _ _ (ap decodedPage q ∙ page-read e x)
+    d ≡ leafFor e (pageTo x) → leafRow t j d m (readPage d) (wantedLeaf e (pageAddress x) false) ≡ []
+page-none t j d m e x q = no-leaf-row t j d m _ _ (ap readPage q ∙ page-read e x)
 
 pub block-none :
     (t j d m e x : ℕ) (exempt : Bool) →
-    d ≡ leafFor e (blockTo x exempt) → leafRow t j d m (decodedBlock d) (wantedLeaf e (blockAddress x) exempt) ≡ []
-block-none t j d m e x exempt q = no-leaf-row t j d m _ _ (ap decodedBlock q ∙ block-read e x exempt)
+    d ≡ leafFor e (blockTo x exempt) → leafRow t j d m (readBlock d) (wantedLeaf e (blockAddress x) exempt) ≡ []
+block-none t j d m e x exempt q = no-leaf-row t j d m _ _ (ap readBlock q ∙ block-read e x exempt)
 
 device-read :
     (inside : Bool) (x : ℕ) →

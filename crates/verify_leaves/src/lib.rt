@@ -55,7 +55,7 @@ fn base_frame(arena: &[u64], base: &[u8], pa: u64, m: usize) -> Verdict
     let d = verify_word::word_at(arena, 4, m as u32);
     let entry = lent::entry_at(base, m);
     let want = verify_word::wanted_leaf(entry, arena::page_address(pa, m as u32), false);
-    verify_word::leaf(4, index, d, index, decode::decode_page(d), want)
+    verify_word::leaf(4, index, d, index, verify_word::read_page(d), want)
 }
 
 // Table 5. Supers at or past sup_frames are looked for like the others: row 14 is not tested here.
@@ -98,7 +98,7 @@ fn super_frame(arena: &[u64], sup: &[u8], ipa: u64, pa: u64, exempt: bool, m: us
     let d = verify_word::word_at(arena, 5, index as u32);
     let entry = lent::entry_at(sup, m);
     let want = verify_word::wanted_leaf(entry, arena::block_address(pa, m as u32), exempt);
-    verify_word::leaf(5, index, d, m as u64, decode::decode_block(d), want)
+    verify_word::leaf(5, index, d, m as u64, verify_word::read_block(d), want)
 }
 
 // A super stands at its own slot, not at its frame number.

@@ -8,7 +8,7 @@ use lib.Dec.{eqb}
 use borrow.Author.Tests.{eq-eqb}
 use Rattle.arena.specs.Word.{pageTo, blockTo, leafFor}
 use Rattle.decode.proofs.Emitted.{emitted-decodes}
-use Rattle.decode.specs.Decoded.{decodedPage, decodedBlock, decodedTable, decodedDevice}
+use Rattle.decode.specs.Decoded.{decodedTable, decodedDevice}
 use Rattle.decode.specs.Emitted.{Output, leafWith}
 use Rattle.decode.specs.declared.DecodedBlock.the-variants.{Device, Nothing as NoBlock}
 use Rattle.decode.specs.declared.DecodedBlock.{DecodedBlock}
@@ -24,7 +24,7 @@ use Rattle.perm.specs.Perm.{permCode}
 use Rattle.perm.specs.declared.Perm.the-variants.{Ro, Rw, Rx}
 use Rattle.perm.specs.declared.Perm.{Perm}
 use Rattle.refusal.specs.Table.{Row, given}
-use Rattle.verify_rows.specs.Word.{sameLeaf, sameBlock, row18, row19, wantedLeaf, leafRow, blockRow}
+use Rattle.verify_rows.specs.Word.{readPage, readBlock, sameLeaf, sameBlock, row18, row19, wantedLeaf, leafRow, blockRow}
 
 -- an address as a word holds it is an output
 pub held-page : (x : ℕ) → Output 12 (pageAddress x)
@@ -51,16 +51,16 @@ read decode word leaf some none entry = go (eqb entry 1) (eqb entry 2) (eqb entr
     go false false true = some Rx
     go false false false = none
 
-pub page-read : (entry x : ℕ) → decodedPage (leafFor entry (pageTo x)) ≡ wantedLeaf entry (pageAddress x) false
+pub page-read : (entry x : ℕ) → readPage (leafFor entry (pageTo x)) ≡ wantedLeaf entry (pageAddress x) false
 page-read entry x =
-    read decodedPage (pageTo x) (λ p. leafWith (pageAddress x) (leafAccessXn p false))
+    read readPage (pageTo x) (λ p. leafWith (pageAddress x) (leafAccessXn p false))
     (λ p. emitted-decodes .page (pageAddress x) p (held-page x)) refl entry
 
 pub block-read :
     (entry x : ℕ) (exempt : Bool) →
-    decodedBlock (leafFor entry (blockTo x exempt)) ≡ wantedLeaf entry (blockAddress x) exempt
+    readBlock (leafFor entry (blockTo x exempt)) ≡ wantedLeaf entry (blockAddress x) exempt
 block-read entry x exempt =
-    read decodedBlock (blockTo x exempt) (λ p. leafWith (blockAddress x) (leafAccessXn p exempt))
+    read readBlock (blockTo x exempt) (λ p. leafWith (blockAddress x) (leafAccessXn p exempt))
     (λ p. emitted-decodes .block (blockAddress x) p exempt (held-block x)) refl entry
 
 -- where what is found is what is wanted, no row applies
@@ -86,7 +86,7 @@ pub no-row18 : (t j d pa : ℕ) → decodedTable d ≡ At (pageAddress pa) → r
 unfolding row18
 no-row18 t j d pa e = rw (e, eq-eqb (pageAddress pa) _ refl)
 
-pub no-row19 : (d pa : ℕ) → decodedBlock d ≡ leafWith (blockAddress pa) readExecute → row19 d pa ≡ []
+pub no-row19 : (d pa : ℕ) → readBlock d ≡ leafWith (blockAddress pa) readExecute → row19 d pa ≡ []
 unfolding row19
 no-row19 d pa e = rw (e, leaf-itself (leafWith (blockAddress pa) readExecute))
 

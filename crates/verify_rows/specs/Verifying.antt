@@ -4,7 +4,6 @@ use mathlib.Core.Bool.{Bool, true, false, not, _&&_, _||_}
 use mathlib.Core.List.{List, [], _∷_}
 use lib.Dec.{eqb, leb, ltb}
 use lib.ListN.{getD}
-use Rattle.decode.specs.Decoded.{decodedPage, decodedBlock}
 use Rattle.decode.specs.declared.DecodedBlock.the-variants.{Device, Nothing}
 use Rattle.decode.specs.declared.DecodedBlock.{DecodedBlock}
 use Rattle.desc.specs.Descriptor.{pageAddress, blockAddress}
@@ -17,7 +16,7 @@ use Rattle.layout.specs.declared.Layout.{Layout}
 use Rattle.layout.specs.declared.Window.{Window}
 use Rattle.refusal.specs.Table.{Row, given, each, table}
 use Rattle.rows.specs.Rows.{row1, mapRows, refusals}
-use Rattle.verify_rows.specs.Word.{row18, row19, spurious, wantedLeaf, leafRow, blockRow}
+use Rattle.verify_rows.specs.Word.{readPage, readBlock, row18, row19, spurious, wantedLeaf, leafRow, blockRow}
 
 -- word j of table t
 abbrev pub word : List ℕ → ℕ → ℕ → ℕ
@@ -80,14 +79,14 @@ dataRows arena l =
 unfoldable pub baseRow : List ℕ → List ℕ → ℕ → ℕ → List Row
 baseRow arena base pa m =
     let d = word arena 4 m in
-    leafRow 4 m d m (decodedPage d) (wantedLeaf (getD base m 0) (pageAddress (pa + m * page)) false)
+    leafRow 4 m d m (readPage d) (wantedLeaf (getD base m 0) (pageAddress (pa + m * page)) false)
 
 -- super frame m: block m of super's output, at its own slot of table 5, also at or past sup_frames
 unfoldable pub superRow : List ℕ → List ℕ → ℕ → ℕ → Bool → ℕ → List Row
 superRow arena sup ipa pa exempt m =
     let j = l2Slot (ipa + m * block) in
     let d = word arena 5 j in
-    leafRow 5 j d m (decodedBlock d) (wantedLeaf (getD sup m 0) (blockAddress (pa + m * block)) exempt)
+    leafRow 5 j d m (readBlock d) (wantedLeaf (getD sup m 0) (blockAddress (pa + m * block)) exempt)
 
 -- slot j of a device window covers this address
 abbrev pub covered : Window → ℕ → ℕ

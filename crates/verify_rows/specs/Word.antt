@@ -3,7 +3,7 @@ use Prim.Native.Nat.{ℕ}
 use mathlib.Core.Bool.{Bool, true, false, not, _&&_}
 use mathlib.Core.List.{List, [], _∷_}
 use lib.Dec.{eqb}
-use Rattle.decode.specs.Decoded.{decodedBlock, decodedTable, decodedDevice}
+use Rattle.decode.specs.Decoded.{decodedPage, decodedBlock, decodedTable, decodedDevice}
 use Rattle.decode.specs.Emitted.{leafWith}
 use Rattle.decode.specs.declared.DecodedBlock.the-variants.{Device, Nothing as NoBlock}
 use Rattle.decode.specs.declared.DecodedBlock.{DecodedBlock}
@@ -21,6 +21,13 @@ use Rattle.perm.specs.declared.Perm.the-variants.{Ro, Rw, Rx}
 use Rattle.refusal.specs.Outcome.{rowOf, refuse}
 use Rattle.refusal.specs.Table.{Row, row, given}
 use Rattle.refusal.specs.declared.Refusal.the-variants.{BadTableEntry, BadImageBlock, BadLeaf}
+
+-- what verification reads of a leaf: page or block
+abbrev pub readPage : ℕ → DecodedLeaf
+readPage d = decodedPage d
+
+abbrev pub readBlock : ℕ → DecodedLeaf
+readBlock d = decodedBlock d
 
 -- it names the table at pa
 abbrev pub sameTable : DecodedTable → ℕ → Bool
@@ -50,7 +57,7 @@ row18 t j d pa =
 -- row 19: word d is not the image's block, read-only and executable at its address
 unfoldable pub row19 : ℕ → ℕ → List Row
 row19 d pa =
-    let found = decodedBlock d in
+    let found = readBlock d in
     refuse (not (sameLeaf found (leafWith (blockAddress pa) readExecute))) (BadImageBlock found (blockAddress pa))
 
 -- row 21: a word where none is wanted

@@ -16,7 +16,7 @@ ghost use Rattle.desc.specs.Words.{leafAccessXn};
 ghost use Rattle.refusal.specs.Outcome.{outcomeOf};
 ghost use Rattle.refusal.specs.Table.{first};
 ghost use Rattle.verify_rows.specs.Verifying.{word};
-ghost use Rattle.verify_rows.specs.Word.{sameTable, sameLeaf, sameBlock, row18, row19, wantedLeaf, leafRow, blockRow};
+ghost use Rattle.verify_rows.specs.Word.{readPage, readBlock, sameTable, sameLeaf, sameBlock, row18, row19, wantedLeaf, leafRow, blockRow};
 
 // Word j of a table, 0 past the arena's end.
 pub fn word_at(arena: &[u64], table: u32, j: u32) -> u64
@@ -27,6 +27,19 @@ pub fn word_at(arena: &[u64], table: u32, j: u32) -> u64
         return 0;
     }
     arena[i]
+}
+
+// What verification reads of a leaf: a page's, and a block's.
+pub fn read_page(d: u64) -> DecodedLeaf
+    ensures { λ r. ⌜ r ≡ readPage d ⌝ }
+{
+    decode::decode_page(d)
+}
+
+pub fn read_block(d: u64) -> DecodedLeaf
+    ensures { λ r. ⌜ r ≡ readBlock d ⌝ }
+{
+    decode::decode_block(d)
 }
 
 // Row 18.
@@ -61,7 +74,7 @@ pub fn image_block(d: u64, pa: u64) -> Verdict
     ensures { λ r. ⌜ outcomeOf r ≡ first (row19 d pa) ⌝ }
 {
     let expected = arena::block_address(pa, 0);
-    let found = decode::decode_block(d);
+    let found = read_block(d);
     let want = DecodedLeaf::Leaf(Decoded {
         pa: expected,
         perm: Perm::Ro,

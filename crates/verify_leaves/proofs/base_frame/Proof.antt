@@ -22,8 +22,8 @@ page-address-requires c κs = search needs
 wanted-leaf-requires : tie.Need-wanted-leaf-requires
 wanted-leaf-requires c κs = search needs
 
-decode-page-requires : tie.Need-decode-page-requires
-decode-page-requires c κs = search needs
+read-page-requires : tie.Need-read-page-requires
+read-page-requires c κs = search needs
 
 leaf-requires : tie.Need-leaf-requires
 leaf-requires c κs = search needs
@@ -40,7 +40,7 @@ returns c =
       ← entry .entry-at .ensures,
       ← pa .page-address .ensures,
       ← want .wanted-leaf .ensures,
-      ← found .decode-page .ensures,
+      ← found .read-page .ensures,
     )
     (c .leaf .ensures)
 
@@ -54,6 +54,6 @@ base-frame-spec =
     cast-page-address
     page-address-requires
     wanted-leaf-requires
-    decode-page-requires
+    read-page-requires
     leaf-requires
     returns)

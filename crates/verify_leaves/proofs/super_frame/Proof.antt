@@ -25,8 +25,8 @@ block-address-requires c κs = search needs
 wanted-leaf-requires : tie.Need-wanted-leaf-requires
 wanted-leaf-requires c κs = search needs
 
-decode-block-requires : tie.Need-decode-block-requires
-decode-block-requires c κs = search needs
+read-block-requires : tie.Need-read-block-requires
+read-block-requires c κs = search needs
 
 leaf-requires : tie.Need-leaf-requires
 leaf-requires c κs = search needs
@@ -45,7 +45,7 @@ returns c =
       ← entry .entry-at .ensures,
       ← pa .block-address .ensures,
       ← want .wanted-leaf .ensures,
-      ← found .decode-block .ensures,
+      ← found .read-block .ensures,
     )
     (c .leaf .ensures)
 
@@ -60,6 +60,6 @@ super-frame-spec =
     cast-block-address
     block-address-requires
     wanted-leaf-requires
-    decode-block-requires
+    read-block-requires
     leaf-requires
     returns)

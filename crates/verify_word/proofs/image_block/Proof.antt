@@ -14,8 +14,8 @@ expected c = omega (arith, c .block-address .ensures)
 block-address-requires : tie.Need-block-address-requires
 block-address-requires c κs = search needs
 
-decode-block-requires : tie.Need-decode-block-requires
-decode-block-requires c κs = search needs
+read-block-requires : tie.Need-read-block-requires
+read-block-requires c κs = search needs
 
 same-leaf-requires : tie.Need-same-leaf-requires
 same-leaf-requires c κs = search needs
@@ -24,15 +24,15 @@ returns : tie.Need-returns
 unfolding row19 first
 returns c =
     let v = c .before in
-    rw (← v .before .decode-block .ensures, ← expected (v .before .before), ← v .same-leaf .ensures, c .if1 .taken)
+    rw (← v .before .read-block .ensures, ← expected (v .before .before), ← v .same-leaf .ensures, c .if1 .taken)
 
 returns-2 : tie.Need-returns-2
 unfolding row19 first
 returns-2 c =
     let v = c .before in
-    rw (← v .before .decode-block .ensures, ← expected (v .before .before), ← v .same-leaf .ensures, c .if1 .left)
+    rw (← v .before .read-block .ensures, ← expected (v .before .before), ← v .same-leaf .ensures, c .if1 .left)
 
 pub image-block-spec : {M : Type 1} → statement M
 image-block-spec =
     tie.close
-    (tie.spec block-address-requires decode-block-requires same-leaf-requires returns returns-2)
+    (tie.spec block-address-requires read-block-requires same-leaf-requires returns returns-2)
