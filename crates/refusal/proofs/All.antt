@@ -32,3 +32,8 @@ module _ {A : Type 0} where
   pub all-always : (P : A → Type 0) → ((x : A) → P x) → (xs : List A) → All P xs
   all-always P f [] = tt
   all-always P f (x ∷ xs) = (f x, all-always P f xs)
+
+  -- for every index
+  pub all-every : {I : Type 0} (P : I → A → Type 0) (xs : List A) → ((i : I) → All (P i) xs) → All (λ x. (i : I) → P i x) xs
+  all-every P [] a = tt
+  all-every P (x ∷ xs) a = (λ i. a i .0, all-every P xs (λ i. a i .1))

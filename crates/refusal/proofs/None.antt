@@ -41,6 +41,11 @@ unfolding flatMap
 each-none f [] e = tt
 each-none f (x ∷ xs) e = let p = both (f x) (each f xs) e in (p .0, each-none f xs (p .1))
 
+pub each-nowhere : {A : Type 0} (f : A → List Row) (xs : List A) → All (λ x. f x ≡ []) xs → each f xs ≡ []
+unfolding flatMap
+each-nowhere f [] all = refl
+each-nowhere f (x ∷ xs) all = rw (all .0, each-nowhere f xs (all .1))
+
 pub pairs-none : {A : Type 0} (f : A → A → List Row) (xs : List A) → pairs f xs ≡ [] → AllPairs (λ x y. f x y ≡ []) xs
 unfolding pairs
 pairs-none f [] e = tt

@@ -5,26 +5,27 @@ use mathlib.Core.List.{List, [], _∷_, _++_, flatMap, append-nil}
 use mathlib.Core.Path.{_≡_, refl, sym, ap, _∙_}
 use native.Mathlib.Omega.{arith}
 use lib.Dec.{eqb, leb, ltb}
-use lib.ListN.{length, getD, set, length-set}
-use lib.Seq.{getD-set-same, getD-set-other}
-use borrow.Author.Tests.{eq-eqb, eqb-true, leb-true, ltb-true, not-false}
-use Rattle.decode.specs.Decoded.{decodedPage, decodedBlock}
+use lib.ListN.{length, getD, length-set}
+use borrow.Author.Tests.{eq-eqb, eqb-true, eqb-false, leb-true, ltb-true, not-false}
 use Rattle.desc.specs.Descriptor.{pageAddress, blockAddress}
 use Rattle.fields.specs.Named.{pick}
-use Rattle.layout.specs.Size.{entries, page, block, arenaLength}
-use Rattle.layout.specs.Window.{imageWindow, l2Slot, slot}
+use Rattle.layout.specs.Area.{liveAreasOf, areaSlot}
+use Rattle.layout.specs.Size.{entries, page, block, tableCount, arenaLength}
+use Rattle.layout.specs.Window.{imageWindow, deviceWindow, l2Slot}
+use Rattle.layout.specs.declared.Area.{Area}
 use Rattle.layout.specs.declared.Layout.{Layout}
 use Rattle.layout.specs.declared.Window.{Window}
 use Rattle.refusal.proofs.None.{none, both, test}
 use Rattle.refusal.specs.Table.{Row, first, given, each, table}
 use Rattle.rows.specs.Rows.{row1, mapRows, refusals}
 use Rattle.verify_rows.proofs.Range.{everywhere}
-use Rattle.verify_rows.specs.Verifying.{Live, word, range, indices, liveOf, liveRow, liveAt, otherRow, otherRows, l1Rows, imageRows, dataRows, baseRow, superRow, wantedBlock, deviceRow, encodingRows, verifyRows}
-use Rattle.verify_rows.specs.Word.{row18, row19, spurious, wantedLeaf, leafRow, blockRow}
+use Rattle.verify_rows.specs.Verifying.{word, range, indices, liveRow, liveAt, otherRow, otherRows, l1Rows, imageRows, dataRows, baseRow, pageRows, superRow, superRows, wantedBlock, deviceRow, deviceRows, encodingRows, verifyRows}
+use Rattle.verify_rows.specs.Word.{readPage, readBlock, row18, row19, spurious, wantedLeaf, leafRow, blockRow}
 use Rattle.verified.proofs.Sparse.{member, rising, sparse}
-use Rattle.verified.proofs.Told.{halves}
-use Rattle.verified.specs.Examples.{Wrong, stored}
-use Rattle.verified.specs.Verified.{Verifies}
+use Rattle.verified.proofs.Stored.{stored-word}
+use Rattle.verified.proofs.Told.{halves, neither}
+use Rattle.verified.specs.Examples.{Wrong}
+use Rattle.verified.specs.Verified.{Verifies, stored}
 
 -- the other words
 
@@ -33,7 +34,7 @@ put [] arena = arena
 put (w ∷ ws) arena = stored (w .table) (w .index) (w .word) (put ws arena)
 
 abbrev inWords : Wrong → Bool
-inWords w = leb 1 (w .table) && (leb (w .table) 6 && ltb (w .index) entries)
+inWords w = leb 1 (w .table) && (leb (w .table) tableCount && ltb (w .index) entries)
 
 abbrev inside : List Wrong → Bool
 inside [] = true
@@ -51,44 +52,14 @@ abbrev found : List Wrong → ℕ → ℕ → (ℕ → List Row) → List Row
 found [] t j rows = []
 found (w ∷ ws) t j rows = pick (at w t j) (rows (w .word)) (found ws t j rows)
 
--- a place is read as the other word, or as it was
-module _ (arena : List ℕ) (w : Wrong) (t j : ℕ) (long : length arena ≡ arenaLength) (ok : inWords w ≡ true) (lo : 1 ≤ t) (h : j < entries) where
-  abbrev place : ℕ
-  place = (w .table - 1) * entries + w .index
-
-  lowest : 1 ≤ w .table
-  lowest = leb-true 1 (w .table) (halves (leb 1 (w .table)) _ ok .0)
-
-  highest : w .table ≤ 6
-  highest = leb-true (w .table) 6 (halves (leb (w .table) 6) _ (halves (leb 1 (w .table)) _ ok .1) .0)
-
-  index-below : w .index < entries
-  index-below = ltb-true (w .index) entries (halves (leb (w .table) 6) _ (halves (leb 1 (w .table)) _ ok .1) .1)
-
-  one : word (stored (w .table) (w .index) (w .word) arena) t j ≡ pick (at w t j) (w .word) (word arena t j)
-  one = go (at w t j) refl
-    where
-      go : (b : Bool) → at w t j ≡ b → word (set arena place (w .word)) t j ≡ pick b (w .word) (word arena t j)
-      go true q =
-          let both-equal = halves (eqb (w .table) t) _ q in
-          let same-table = eqb-true (w .table) t (both-equal .0) in
-          let same-index = eqb-true (w .index) j (both-equal .1) in
-          let here : (t - 1) * entries + j ≡ place = omega (arith, same-table, same-index) in
-          let from = lowest in
-          let to = highest in
-          let below = index-below in
-          let there : place < length arena = omega (arith, long, from, to, below) in
-          ap (λ (i : ℕ). getD (set arena place (w .word)) i 0) here ∙ getD-set-same arena place (w .word) 0 there
-      go false q =
-          let from = lowest in
-          let below = index-below in
-          let apart : ((t - 1) * entries + j ≡ place → ⊥) =
-          λ p.
-          let same-table : w .table ≡ t = omega (arith, p, lo, from, below, h) in
-          let same-index : w .index ≡ j = omega (arith, p, same-table) in
-          let wrongly : at w t j ≡ true = rw (eq-eqb (w .table) t same-table, eq-eqb (w .index) j same-index) in
-          absurd (let z : _≡_ {A = ℕ} 0 1 = cc in omega arith) in
-          getD-set-other arena place _ (w .word) 0 apart
+one :
+    (arena : List ℕ) (w : Wrong) (t j : ℕ) → length arena ≡ arenaLength → inWords w ≡ true → 1 ≤ t → j < entries →
+    word (stored (w .table) (w .index) (w .word) arena) t j ≡ pick (at w t j) (w .word) (word arena t j)
+one arena w t j long ok lo h =
+    let lowest = halves (leb 1 (w .table)) _ ok in
+    let highest = halves (leb (w .table) tableCount) _ (lowest .1) in
+    stored-word arena (w .table) (w .index) (w .word) long (leb-true 1 (w .table) (lowest .0))
+    (leb-true (w .table) tableCount (highest .0)) (ltb-true (w .index) entries (highest .1)) t j lo h
 
 -- the verified words draw nothing, so that only the others' rows are left
 seen :
@@ -133,10 +104,6 @@ member-insert m x (y ∷ ys) = go (ltb x y) (member-insert m x ys)
     go true e = refl
     go false e = ap (λ b. eqb m y || b) e ∙ swap (eqb m y) (eqb m x) (member m ys)
 
-neither : (a b : Bool) → (a || b) ≡ false → (a ≡ false) × (b ≡ false)
-neither true b e = absurd (let z : _≡_ {A = ℕ} 0 1 = cc in omega arith)
-neither false b e = (refl, e)
-
 -- a number that is not among them has no rows
 gaps :
     (ws : List Wrong) (key : ℕ → ℕ) (t m j : ℕ) (rows : ℕ → List Row) →
@@ -168,8 +135,8 @@ alike f g k (suc n) same =
 
 -- each part of the list: the rows of a word by what is wanted there
 
-abbrev liveOne : Live → ℕ → List Row
-liveOne x d = given (x .window .present) (row18 1 (slot (x .window)) d (x .pa))
+abbrev liveOne : Area → ℕ → List Row
+liveOne a d = given (a .present) (row18 1 (areaSlot a) d (a .table))
 
 abbrev other : Layout → ℕ → ℕ → ℕ → List Row
 other l t j d = given (not (eqb d 0) && not (liveAt l t j)) (spurious t j d ∷ [])
@@ -185,7 +152,7 @@ dataOne l d = row18 3 (l2Slot (l .«data_ipa_base»)) d (l .«l3_data_pa»)
 
 abbrev pageOne : List ℕ → Layout → ℕ → ℕ → List Row
 pageOne base l m d =
-    leafRow 4 m d m (decodedPage d) (wantedLeaf (getD base m 0) (pageAddress (l .«data_pa_base» + m * page)) false)
+    leafRow 4 m d m (readPage d) (wantedLeaf (getD base m 0) (pageAddress (l .«data_pa_base» + m * page)) false)
 
 -- where super frame m stands, and which frame stands there
 abbrev superAt : Layout → ℕ → ℕ
@@ -196,25 +163,41 @@ frameAt l j = (j + (entries - l2Slot (l .«sup_ipa_base»))) % entries
 
 abbrev superOne : List ℕ → Layout → ℕ → ℕ → List Row
 superOne sup l m d =
-    leafRow 5 (superAt l m) d m (decodedBlock d)
+    leafRow 5 (superAt l m) d m (readBlock d)
     (wantedLeaf (getD sup m 0) (blockAddress (l .«sup_pa_base» + m * block)) (l .«sup_wx_exempt»))
 
-abbrev deviceOne : Layout → ℕ → ℕ → List Row
-deviceOne l j d = blockRow 6 j d (wantedBlock (l .«device_base») (l .«device_len») j)
+abbrev deviceOne : ℕ → Window → ℕ → ℕ → List Row
+deviceOne t w j d = blockRow t j d (wantedBlock w j)
 
 abbrev itself : ℕ → ℕ
 itself j = j
 
+-- by which number a table is gone through
+abbrev keyOf : Layout → ℕ → ℕ → ℕ
+keyOf l t = pick (eqb t 5) (frameAt l) itself
+
+-- in each of n tables from t on
+abbrev rises : Layout → List Wrong → ℕ → ℕ → Bool
+rises l ws t zero = true
+rises l ws t (suc n) = rising entries 0 (numbers (keyOf l t) t ws) && rises l ws (suc t) n
+
+rises-at :
+    (l : Layout) (ws : List Wrong) (t n k : ℕ) → rises l ws t n ≡ true → t ≤ k → k < t + n →
+    rising entries 0 (numbers (keyOf l k) k ws) ≡ true
+rises-at l ws t zero k up lo hi = absurd (omega (arith, lo, hi))
+rises-at l ws t (suc n) k up lo hi =
+    let parts = halves (rising entries 0 (numbers (keyOf l t) t ws)) _ up in
+    go (eqb k t) refl (parts .0) (λ past. rises-at l ws (suc t) n k (parts .1) past (omega (arith, hi)))
+  where
+    go :
+        (b : Bool) → eqb k t ≡ b → rising entries 0 (numbers (keyOf l t) t ws) ≡ true →
+        (suc t ≤ k → rising entries 0 (numbers (keyOf l k) k ws) ≡ true) → rising entries 0 (numbers (keyOf l k) k ws) ≡ true
+    go true q here later = rw (eqb-true k t q) here
+    go false q here later = let ne = eqb-false k t q in later (omega (arith, lo, ne))
+
 -- the others are inside the arena, and are sorted table by table
 abbrev pub sorted : Layout → List Wrong → Bool
-sorted l ws =
-    inside ws
-    && (rising entries 0 (numbers itself 1 ws)
-    && (rising entries 0 (numbers itself 2 ws)
-    && (rising entries 0 (numbers itself 3 ws)
-    && (rising entries 0 (numbers itself 4 ws)
-    && (rising entries 0 (numbers (frameAt l) 5 ws)
-    && rising entries 0 (numbers itself 6 ws))))))
+sorted l ws = inside ws && rises l ws 1 tableCount
 
 abbrev others : List Wrong → Layout → ℕ → List Row
 others ws l t = each (λ j. found ws t j (other l t j)) (numbers itself t ws)
@@ -223,12 +206,12 @@ others ws l t = each (λ j. found ws t j (other l t j)) (numbers itself t ws)
 abbrev pub drawn : List Wrong → List ℕ → List ℕ → Layout → List Row
 drawn ws base sup l =
     table
-    (table (each (λ x. found ws 1 (slot (x .window)) (liveOne x)) (liveOf l) ∷ others ws l 1 ∷ [])
+    (table (each (λ a. found ws 1 (areaSlot a) (liveOne a)) (liveAreasOf l) ∷ others ws l 1 ∷ [])
     ∷ table (found ws 2 (l2Slot (image l .ipa)) (imageOne l) ∷ others ws l 2 ∷ [])
     ∷ table (found ws 3 (l2Slot (l .«data_ipa_base»)) (dataOne l) ∷ others ws l 3 ∷ [])
     ∷ each (λ m. found ws 4 m (pageOne base l m)) (numbers itself 4 ws)
     ∷ each (λ m. found ws 5 (superAt l m) (superOne sup l m)) (numbers (frameAt l) 5 ws)
-    ∷ each (λ j. found ws 6 j (deviceOne l j)) (numbers itself 6 ws)
+    ∷ each (λ j. found ws 6 j (deviceOne 6 (deviceWindow l) j)) (numbers itself 6 ws)
     ∷ [])
 
 by-index : (m : ℕ) → m < entries → (itself m < entries) × (itself m ≡ m)
@@ -240,6 +223,9 @@ by-frame l m h = (omega arith, omega (arith, h))
 module _ (arena base sup : List ℕ) (l : Layout) (ws : List Wrong) (long : length arena ≡ arenaLength) (good : sorted l ws ≡ true) where
   ok : inside ws ≡ true
   ok = halves (inside ws) _ good .0
+
+  up : (t : ℕ) → 1 ≤ t → t ≤ tableCount → rising entries 0 (numbers (keyOf l t) t ws) ≡ true
+  up t lo hi = rises-at l ws 1 tableCount t (halves (inside ws) _ good .1) lo (omega (arith, hi))
 
   -- a part of the list that goes by number
   numbered :
@@ -264,41 +250,36 @@ module _ (arena base sup : List ℕ) (l : Layout) (ws : List Wrong) (long : leng
   other-words t lo clean up = numbered t itself itself (other l t) lo by-index clean up
 
   live-words :
-      (xs : List Live) → each (liveRow arena) xs ≡ [] →
-      each (liveRow (put ws arena)) xs ≡ each (λ x. found ws 1 (slot (x .window)) (liveOne x)) xs
+      (xs : List Area) → each (liveRow arena) xs ≡ [] →
+      each (liveRow (put ws arena)) xs ≡ each (λ a. found ws 1 (areaSlot a) (liveOne a)) xs
   unfolding flatMap liveRow
   live-words [] clean = refl
-  live-words (x ∷ xs) clean =
-      let parts = both (liveRow arena x) (each (liveRow arena) xs) clean in
-      rw (seen arena ws 1 (slot (x .window)) (liveOne x) long ok (omega arith) (omega arith) (parts .0), live-words xs (parts .1))
+  live-words (a ∷ xs) clean =
+      let parts = both (liveRow arena a) (each (liveRow arena) xs) clean in
+      rw (seen arena ws 1 (areaSlot a) (liveOne a) long ok (omega arith) (omega arith) (parts .0), live-words xs (parts .1))
 
   all-words : encodingRows arena base sup l ≡ [] → encodingRows (put ws arena) base sup l ≡ drawn ws base sup l
   unfolding encodingRows l1Rows imageRows dataRows baseRow superRow deviceRow flatMap
   all-words clean =
-      let up1 = halves (rising entries 0 (numbers itself 1 ws)) _ (halves (inside ws) _ good .1) in
-      let up2 = halves (rising entries 0 (numbers itself 2 ws)) _ (up1 .1) in
-      let up3 = halves (rising entries 0 (numbers itself 3 ws)) _ (up2 .1) in
-      let up4 = halves (rising entries 0 (numbers itself 4 ws)) _ (up3 .1) in
-      let up5 = halves (rising entries 0 (numbers (frameAt l) 5 ws)) _ (up4 .1) in
       let part1 = both (l1Rows arena l) _ clean in
       let part2 = both (imageRows arena l) _ (part1 .1) in
       let part3 = both (dataRows arena l) _ (part2 .1) in
-      let part4 = both (each (baseRow arena base (l .«data_pa_base»)) indices) _ (part3 .1) in
-      let part5 = both (each (superRow arena sup (l .«sup_ipa_base») (l .«sup_pa_base») (l .«sup_wx_exempt»)) indices) _ (part4 .1) in
-      let part6 = both (each (deviceRow arena (l .«device_base») (l .«device_len»)) indices) [] (part5 .1) in
-      let live = both (each (liveRow arena) (liveOf l)) _ (part1 .0) in
+      let part4 = both (pageRows arena base l) _ (part3 .1) in
+      let part5 = both (superRows arena sup l) _ (part4 .1) in
+      let part6 = both (deviceRows arena 6 (deviceWindow l)) [] (part5 .1) in
+      let live = both (each (liveRow arena) (liveAreasOf l)) _ (part1 .0) in
       let blocks = both (imageOne l (word arena 2 (l2Slot (image l .ipa)))) _ (part2 .0) in
       let named = both (dataOne l (word arena 3 (l2Slot (l .«data_ipa_base»)))) _ (part3 .0) in
       rw (
-        live-words (liveOf l) (live .0),
-        other-words 1 (omega arith) (both (otherRows arena l 1) [] (live .1) .0) (up1 .0),
+        live-words (liveAreasOf l) (live .0),
+        other-words 1 (omega arith) (both (otherRows arena l 1) [] (live .1) .0) (up 1 (omega arith) (omega arith)),
         seen arena ws 2 (l2Slot (image l .ipa)) (imageOne l) long ok (omega arith) (omega arith) (blocks .0),
-        other-words 2 (omega arith) (both (otherRows arena l 2) [] (blocks .1) .0) (up2 .0),
+        other-words 2 (omega arith) (both (otherRows arena l 2) [] (blocks .1) .0) (up 2 (omega arith) (omega arith)),
         seen arena ws 3 (l2Slot (l .«data_ipa_base»)) (dataOne l) long ok (omega arith) (omega arith) (named .0),
-        other-words 3 (omega arith) (both (otherRows arena l 3) [] (named .1) .0) (up3 .0),
-        numbered 4 itself itself (pageOne base l) (omega arith) by-index (part4 .0) (up4 .0),
-        numbered 5 (superAt l) (frameAt l) (superOne sup l) (omega arith) (by-frame l) (part5 .0) (up5 .0),
-        numbered 6 itself itself (deviceOne l) (omega arith) by-index (part6 .0) (up5 .1),
+        other-words 3 (omega arith) (both (otherRows arena l 3) [] (named .1) .0) (up 3 (omega arith) (omega arith)),
+        numbered 4 itself itself (pageOne base l) (omega arith) by-index (part4 .0) (up 4 (omega arith) (omega arith)),
+        numbered 5 (superAt l) (frameAt l) (superOne sup l) (omega arith) (by-frame l) (part5 .0) (up 5 (omega arith) (omega arith)),
+        numbered 6 itself itself (deviceOne 6 (deviceWindow l)) (omega arith) by-index (part6 .0) (up 6 (omega arith) (omega arith)),
       )
 
 pub first-drawn :

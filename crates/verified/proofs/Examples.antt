@@ -1,5 +1,5 @@
 -- Document 01's examples of rows 18 to 22, and verification's order, from the rows that the wrong words draw.
-use Prim.Native.Nat.{ℕ, _+_, _-_, _*_}
+use Prim.Native.Nat.{ℕ, _+_}
 use mathlib.Core.Bool.{Bool, true, not, _&&_}
 use mathlib.Core.List.{List, [], _∷_, map, flatMap}
 use mathlib.Core.Path.{_≡_, refl, sym}
@@ -7,7 +7,7 @@ use lib.Dec.{eqb}
 use lib.Seq.{set-comm}
 use borrow.Author.Tests.{eqb-false, not-true}
 use Rattle.layout.specs.Layout.{layoutOf}
-use Rattle.layout.specs.Size.{entries}
+use Rattle.layout.specs.Size.{firstWord}
 use Rattle.refusal.specs.Table.{row, Outcome, first, eachFrom, pairs}
 use Rattle.rows.specs.Examples.{sceneS, baseS, supS}
 use Rattle.rows.specs.Faults.{neighbours}
@@ -55,7 +55,7 @@ module _ (scene arena : List ℕ) (v : Verifies arena baseS supS (layoutOf scene
       rw (first-drawn arena baseS supS (layoutOf scene) (w ∷ x ∷ []) v (parts .0), two-told (x ∷ ws) (parts .1))
 
 abbrev placeOf : Wrong → ℕ
-placeOf w = (w .table - 1) * entries + w .index
+placeOf w = firstWord (w .table) + w .index
 
 abbrev two-places : List Wrong → Bool
 two-places [] = true

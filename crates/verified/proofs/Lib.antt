@@ -1,7 +1,9 @@
+pub mod Areas
 pub mod Changed
 pub mod Examples
 pub mod LetsBy
 pub mod Sparse
+pub mod Stored
 pub mod Told
 pub mod Verified
 pub mod VerifiedAlike

@@ -1,12 +1,12 @@
 -- Where no row applies to a word, what is found there is what is wanted.
 use Prim.Native.Nat.{ℕ}
-use mathlib.Core.Bool.{Bool, true, false, not, _&&_}
+use mathlib.Core.Bool.{Bool, true, false, not, _&&_, _||_}
 use mathlib.Core.List.{[], _∷_}
 use mathlib.Core.Path.{_≡_, refl, ap, _∙_}
 use native.Mathlib.Omega.{arith}
 use lib.Dec.{eqb}
 use borrow.Author.Tests.{eqb-true, not-false}
-use Rattle.decode.specs.Decoded.{decodedBlock, decodedTable, decodedDevice}
+use Rattle.decode.specs.Decoded.{decodedTable, decodedDevice}
 use Rattle.decode.specs.Emitted.{leafWith}
 use Rattle.decode.specs.declared.DecodedBlock.the-variants.{Device, Nothing as NoBlock}
 use Rattle.decode.specs.declared.DecodedBlock.{DecodedBlock}
@@ -22,11 +22,15 @@ use Rattle.perm.specs.declared.Perm.the-variants.{Ro, Rw, Rx}
 use Rattle.perm.specs.declared.Perm.{Perm}
 use Rattle.refusal.proofs.None.{only}
 use Rattle.refusal.specs.Table.{Row, given}
-use Rattle.verify_rows.specs.Word.{sameTable, sameLeaf, sameBlock, row18, row19, leafRow, blockRow}
+use Rattle.verify_rows.specs.Word.{readBlock, sameTable, sameLeaf, sameBlock, row18, row19, leafRow, blockRow}
 
 pub halves : (a b : Bool) → (a && b) ≡ true → (a ≡ true) × (b ≡ true)
 halves true b e = (refl, e)
 halves false b e = absurd (let z : _≡_ {A = ℕ} 0 1 = cc in omega arith)
+
+pub neither : (a b : Bool) → (a || b) ≡ false → (a ≡ false) × (b ≡ false)
+neither true b e = absurd (let z : _≡_ {A = ℕ} 0 1 = cc in omega arith)
+neither false b e = (refl, e)
 
 same-perm : (p q : Perm) → permCode p ≡ permCode q → p ≡ q
 same-perm Ro Ro e = refl
@@ -84,11 +88,11 @@ unfolding row18
 row18-told t j d pa e =
     table-told (decodedTable d) (pageAddress pa) (not-false (sameTable (decodedTable d) (pageAddress pa)) (only _ _ e))
 
-pub row19-told : (d pa : ℕ) → row19 d pa ≡ [] → decodedBlock d ≡ leafWith (blockAddress pa) readExecute
+pub row19-told : (d pa : ℕ) → row19 d pa ≡ [] → readBlock d ≡ leafWith (blockAddress pa) readExecute
 unfolding row19
 row19-told d pa e =
     let want = leafWith (blockAddress pa) readExecute in
-    leaf-told (decodedBlock d) want (not-false (sameLeaf (decodedBlock d) want) (only _ _ e))
+    leaf-told (readBlock d) want (not-false (sameLeaf (readBlock d) want) (only _ _ e))
 
 pub other-told : (d : ℕ) (live : Bool) (r : Row) → given (not (eqb d 0) && not live) (r ∷ []) ≡ [] → live ≡ false → d ≡ 0
 other-told d true r e l = absurd (let z : _≡_ {A = ℕ} 0 1 = cc in omega arith)

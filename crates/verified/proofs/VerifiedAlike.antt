@@ -1,7 +1,7 @@
 -- What verification accepts is read alike: no row applies, so each word is read as what is wanted, which is what encoding leaves there.
 use Prim.Native.Nat.{ℕ, _+_, _-_, _*_, _%_, _<_}
-use mathlib.Core.Bool.{Bool, true, false, _&&_}
-use mathlib.Core.List.{List, [], flatMap}
+use mathlib.Core.Bool.{Bool, true, false}
+use mathlib.Core.List.{List, [], _++_, flatMap}
 use mathlib.Core.Path.{_≡_, refl, sym, ap, _∙_}
 use native.Mathlib.Omega.{arith}
 use lib.Dec.{eqb}
@@ -9,27 +9,30 @@ use borrow.Author.Tests.{eq-eqb, eqb-true, not-false}
 use Rattle.accepted.proofs.Guarded.{guarded-facts}
 use Rattle.accepted.specs.Guarded.{Guarded}
 use Rattle.arena.proofs.At.{l1At, imageAt as imageWordAt, dataAt as dataWordAt}
-use Rattle.arena.specs.Encoded.{target}
 use Rattle.arena.specs.Word.{tableTo, imageTo}
 use Rattle.decode.proofs.Emitted.{emitted-decodes}
-use Rattle.decode.specs.Decoded.{decodedPage, decodedBlock, decodedTable, decodedDevice}
+use Rattle.decode.specs.Decoded.{decodedTable, decodedDevice}
 use Rattle.desc.specs.Descriptor.{pageAddress, blockAddress}
 use Rattle.fields.specs.Named.{pick}
+use Rattle.layout.specs.Area.{liveAreasOf, areaSlot, areaHas}
 use Rattle.layout.specs.Size.{entries, block, boardLimit}
-use Rattle.layout.specs.Window.{imageWindow, dataWindow, superWindow, deviceWindow, l2Slot, slot}
+use Rattle.layout.specs.Window.{imageWindow, deviceWindow, l2Slot}
+use Rattle.layout.specs.declared.Area.{Area}
 use Rattle.layout.specs.declared.Layout.{Layout}
 use Rattle.layout.specs.declared.Window.{Window}
-use Rattle.refusal.proofs.None.{none, both, test, under}
+use Rattle.refusal.proofs.All.{all-both}
+use Rattle.refusal.proofs.None.{none, both, test, under, each-none}
 use Rattle.refusal.specs.Table.{given, each}
 use Rattle.rows.specs.Rows.{row1, mapRows, refusals}
-use Rattle.target_word.proofs.Place.{in-1, in-2, in-3}
+use Rattle.target_word.proofs.Place.{in-2, in-3}
 use Rattle.verify_rows.proofs.Range.{everywhere}
-use Rattle.verify_rows.specs.Verifying.{word, indices, live, liveOf, liveRow, windowAt, imageAt, liveAt, otherRow, otherRows, l1Rows, imageRows, dataRows, baseRow, superRow, deviceRow, encodingRows, verifyRows}
-use Rattle.verify_rows.specs.Word.{row18, row19}
-use Rattle.verified.specs.Verified.{Kept, VerifiedAlike}
+use Rattle.verify_rows.specs.Verifying.{word, liveRow, windowAt, imageAt, liveAt, otherRow, otherRows, l1Rows, imageRows, dataRows, baseRow, pageRows, superRow, superRows, wantedBlock, deviceRow, deviceRows, encodingRows, verifyRows}
+use Rattle.verify_rows.specs.Word.{readPage, readBlock, row18, row19}
+use Rattle.verified.specs.Verified.{encodedWord, Kept, VerifiedAlike}
 use Rattle.verify_rows.proofs.Read.{held-page, held-block}
+use Rattle.verified.proofs.Areas.{somebody, Named, l1-word, l1-live, l1-none}
 use Rattle.verified.proofs.Told.{halves, leaf-row-told, block-row-told, row18-told, row19-told, other-told}
-use Rattle.verified.proofs.Words.{l1-none, l1-data, l1-super, l1-image, l1-device, page-wanted, super-wanted, device-wanted}
+use Rattle.verified.proofs.Words.{page-wanted, super-wanted, device-6}
 
 -- a word that is wanted, and one that is not
 some : {A : Type 0} (read : ℕ → A) (d w : ℕ) → read d ≡ read w → (w ≡ 0 → ⊥) → Kept read d w
@@ -46,72 +49,57 @@ module _ (arena base sup : List ℕ) (l : Layout) (g : Guarded boardLimit base s
   unfolding otherRow
   others t e j h = other-told (word arena t j) (liveAt l t j) _ (everywhere (otherRow arena l t) entries e j h)
 
-  -- a word of a window, at its slot
-  module _ (w : Window) (pa : ℕ) (at : l1At l (slot w) ≡ tableTo pa) (p : w .present ≡ true) (e : liveRow arena (live w pa) ≡ []) where
-    of-window : (j : ℕ) → slot w ≡ j → Kept decodedTable (word arena 1 j) (l1At l j)
-    unfolding liveRow
-    of-window j q =
-        let here = row18-told 1 (slot w) (word arena 1 (slot w)) pa (under (w .present) _ p e) in
-        let wanted = ap decodedTable at ∙ emitted-decodes .table (pageAddress pa) (held-page pa) in
-        rw (← q) (some decodedTable (word arena 1 (slot w)) (l1At l (slot w)) (here ∙ sym wanted) (λ z. let n = sym at ∙ z in omega (arith, n)))
+  -- a word of an area, at its slot
+  of-area :
+      (a : Area) (j : ℕ) → liveRow arena a ≡ [] → Named l j a → areaHas a j ≡ true → Kept decodedTable (word arena 1 j) (l1At l j)
+  unfolding liveRow
+  of-area a j clean names has =
+      let p = halves (a .present) _ has in
+      let s = areaSlot a in
+      let here = row18-told 1 s (word arena 1 s) (a .table) (under (a .present) _ (p .0) clean) in
+      let at = names has in
+      let wanted = ap decodedTable at ∙ emitted-decodes .table (pageAddress (a .table)) (held-page (a .table)) in
+      let found = rw (eqb-true s j (p .1)) at here in
+      some decodedTable (word arena 1 j) (l1At l j) (found ∙ sym wanted) (λ z. let n = sym at ∙ z in omega (arith, n))
+
+  -- no row of an area, and its word
+  abbrev Told : Area → Type 0
+  Told a = (liveRow arena a ≡ []) × ((i : ℕ) → Named l i a)
 
   windows : l1Rows arena l ≡ [] → (j : ℕ) → j < entries → Kept decodedTable (word arena 1 j) (l1At l j)
   unfolding l1Rows flatMap
-  windows e j h =
-      let parts = both (each (liveRow arena) (liveOf l)) _ e in
-      let first = both (liveRow arena (live (dataWindow l) (l .«l2_data_pa»))) _ (parts .0) in
-      let second = both (liveRow arena (live (superWindow l) (l .«l2_sup_pa»))) _ (first .1) in
-      let third = both (liveRow arena (live image (l .«l2_code_pa»))) _ (second .1) in
-      let fourth = both (liveRow arena (live (deviceWindow l) (l .«l2_dev_pa»))) [] (third .1) in
-      let rest = both (otherRows arena l 1) [] (parts .1) .0 in
-      go (eqb (slot (dataWindow l)) j) (eqb (slot (superWindow l)) j) (image .present && eqb (slot image) j)
-      (deviceWindow l .present && eqb (slot (deviceWindow l)) j) refl refl refl refl (first .0) (second .0) (third .0) (fourth .0) rest
+  windows e j h = go (windowAt (liveAreasOf l) j) refl (both (each (liveRow arena) (liveAreasOf l)) _ e)
     where
       go :
-          (a b c d : Bool) →
-          eqb (slot (dataWindow l)) j ≡ a →
-          eqb (slot (superWindow l)) j ≡ b →
-          (image .present && eqb (slot image) j) ≡ c →
-          (deviceWindow l .present && eqb (slot (deviceWindow l)) j) ≡ d →
-          liveRow arena (live (dataWindow l) (l .«l2_data_pa»)) ≡ [] →
-          liveRow arena (live (superWindow l) (l .«l2_sup_pa»)) ≡ [] →
-          liveRow arena (live image (l .«l2_code_pa»)) ≡ [] →
-          liveRow arena (live (deviceWindow l) (l .«l2_dev_pa»)) ≡ [] →
-          otherRows arena l 1 ≡ [] → Kept decodedTable (word arena 1 j) (l1At l j)
-      go true b c d qa qb qc qd ra rb rc rd rest =
-          of-window (dataWindow l) (l .«l2_data_pa») (l1-data l (g .layout)) refl ra j (eqb-true _ _ qa)
-      go false true c d qa qb qc qd ra rb rc rd rest =
-          of-window (superWindow l) (l .«l2_sup_pa») (l1-super l (g .layout)) refl rb j (eqb-true _ _ qb)
-      go false false true d qa qb qc qd ra rb rc rd rest =
-          let p = halves (image .present) _ qc in
-          of-window image (l .«l2_code_pa») (l1-image l (g .layout) (p .0)) (p .0) rc j (eqb-true _ _ (p .1))
-      go false false false true qa qb qc qd ra rb rc rd rest =
-          let p = halves (deviceWindow l .present) _ qd in
-          of-window (deviceWindow l) (l .«l2_dev_pa») (l1-device l (g .layout) (p .0)) (p .0) rd j (eqb-true _ _ (p .1))
-      go false false false false qa qb qc qd ra rb rc rd rest =
-          let nobody : windowAt (liveOf l) j ≡ false = rw (qa, qb, qc, qd) in
-          nothing decodedTable _ _ (others 1 rest j h nobody) (l1-none l j nobody)
+          (b : Bool) → windowAt (liveAreasOf l) j ≡ b →
+          (each (liveRow arena) (liveAreasOf l) ≡ []) × (otherRows arena l 1 ++ [] ≡ []) → Kept decodedTable (word arena 1 j) (l1At l j)
+      go true q parts =
+          let clean = each-none (liveRow arena) (liveAreasOf l) (parts .0) in
+          somebody Told j (λ a f. of-area a j (f .0) (f .1 j)) (liveAreasOf l) q
+          (all-both (λ a. liveRow arena a ≡ []) (λ a. (i : ℕ) → Named l i a) (liveAreasOf l) clean (l1-live l (g .layout)))
+      go false q parts =
+          nothing decodedTable _ _ (others 1 (both (otherRows arena l 1) [] (parts .1) .0) j h q) (l1-none l (g .layout) j q)
 
-  image-words : imageRows arena l ≡ [] → (j : ℕ) → j < entries → Kept decodedBlock (word arena 2 j) (imageWordAt l j)
+  image-words : imageRows arena l ≡ [] → (j : ℕ) → j < entries → Kept readBlock (word arena 2 j) (imageWordAt l j)
   unfolding imageRows flatMap
   image-words e j h =
       let parts = both (given (image .present) (row19 (word arena 2 (l2Slot (image .ipa))) (image .pa))) _ e in
       go (image .present) (eqb (l2Slot (image .ipa)) j) refl refl (parts .0) (both (otherRows arena l 2) [] (parts .1) .0)
     where
-      absent : otherRows arena l 2 ≡ [] → imageAt l j ≡ false → Kept decodedBlock (word arena 2 j) (imageWordAt l j)
-      absent o n = nothing decodedBlock _ _ (others 2 o j h n) (ap (λ t. pick t (imageTo (image .pa)) 0) n)
+      absent : otherRows arena l 2 ≡ [] → imageAt l j ≡ false → Kept readBlock (word arena 2 j) (imageWordAt l j)
+      absent o n = nothing readBlock _ _ (others 2 o j h n) (ap (λ t. pick t (imageTo (image .pa)) 0) n)
 
       go :
           (p b : Bool) → image .present ≡ p → eqb (l2Slot (image .ipa)) j ≡ b →
           given (image .present) (row19 (word arena 2 (l2Slot (image .ipa))) (image .pa)) ≡ [] →
-          otherRows arena l 2 ≡ [] → Kept decodedBlock (word arena 2 j) (imageWordAt l j)
+          otherRows arena l 2 ≡ [] → Kept readBlock (word arena 2 j) (imageWordAt l j)
       go true true p q r o =
           let s = l2Slot (image .ipa) in
           let here = row19-told (word arena 2 s) (image .pa) (under (image .present) _ p r) in
           let at : imageWordAt l s ≡ imageTo (image .pa) = rw (p, eq-eqb s s refl) in
-          let wanted = ap decodedBlock at ∙ emitted-decodes .image (blockAddress (image .pa)) (held-block (image .pa)) in
+          let wanted = ap readBlock at ∙ emitted-decodes .image (blockAddress (image .pa)) (held-block (image .pa)) in
           rw (← eqb-true s j q)
-          (some decodedBlock (word arena 2 s) (imageWordAt l s) (here ∙ sym wanted) (λ z. let n = sym at ∙ z in omega (arith, n)))
+          (some readBlock (word arena 2 s) (imageWordAt l s) (here ∙ sym wanted) (λ z. let n = sym at ∙ z in omega (arith, n)))
       go true false p q r o = absent o (rw (p, q))
       go false b p q r o = absent o (rw p)
 
@@ -136,18 +124,14 @@ module _ (arena base sup : List ℕ) (l : Layout) (g : Guarded boardLimit base s
       go false q r o =
           nothing decodedTable _ _ (others 3 o j h q) (ap (λ t. pick t (tableTo (l .«l3_data_pa»)) 0) q)
 
-  page-words :
-      each (baseRow arena base (l .«data_pa_base»)) indices ≡ [] →
-      (j : ℕ) → j < entries → decodedPage (word arena 4 j) ≡ decodedPage (target l base sup (3 * entries + j))
+  page-words : pageRows arena base l ≡ [] → (j : ℕ) → j < entries → readPage (word arena 4 j) ≡ readPage (encodedWord l base sup 4 j)
   unfolding baseRow
   page-words e j h =
       leaf-row-told 4 j _ j _ _ (everywhere (baseRow arena base (l .«data_pa_base»)) entries e j h)
       ∙ sym (page-wanted base sup l g j h)
 
   -- each slot is that of one frame
-  super-words :
-      each (superRow arena sup (l .«sup_ipa_base») (l .«sup_pa_base») (l .«sup_wx_exempt»)) indices ≡ [] →
-      (j : ℕ) → j < entries → decodedBlock (word arena 5 j) ≡ decodedBlock (target l base sup (4 * entries + j))
+  super-words : superRows arena sup l ≡ [] → (j : ℕ) → j < entries → readBlock (word arena 5 j) ≡ readBlock (encodedWord l base sup 5 j)
   unfolding superRow
   super-words e j h =
       let m = (j + entries - l2Slot (l .«sup_ipa_base»)) % entries in
@@ -158,13 +142,9 @@ module _ (arena base sup : List ℕ) (l : Layout) (g : Guarded boardLimit base s
       (everywhere (superRow arena sup (l .«sup_ipa_base») (l .«sup_pa_base») (l .«sup_wx_exempt»)) entries e m below)
       ∙ sym (super-wanted base sup l g m below) in rw place at found
 
-  device-words :
-      each (deviceRow arena (l .«device_base») (l .«device_len»)) indices ≡ [] →
-      (j : ℕ) → j < entries → decodedDevice (word arena 6 j) ≡ decodedDevice (target l base sup (5 * entries + j))
+  device-words : (t : ℕ) (w : Window) → deviceRows arena t w ≡ [] → (j : ℕ) → j < entries → decodedDevice (word arena t j) ≡ wantedBlock w j
   unfolding deviceRow
-  device-words e j h =
-      block-row-told 6 j _ _ (everywhere (deviceRow arena (l .«device_base») (l .«device_len»)) entries e j h)
-      ∙ sym (device-wanted base sup l g j h)
+  device-words t w e j h = block-row-told t j _ _ (everywhere (deviceRow arena t w) entries e j h)
 
 pub verified-alike : VerifiedAlike
 unfolding verifyRows encodingRows row1 flatMap
@@ -177,16 +157,15 @@ verified-alike arena base sup l guard v =
     let level1 = both (l1Rows arena l) _ words in
     let code = both (imageRows arena l) _ (level1 .1) in
     let pages = both (dataRows arena l) _ (code .1) in
-    let bases = both (each (baseRow arena base (l .«data_pa_base»)) indices) _ (pages .1) in
-    let supers =
-    both (each (superRow arena sup (l .«sup_ipa_base») (l .«sup_pa_base») (l .«sup_wx_exempt»)) indices) _ (bases .1) in
-    let devices = both (each (deviceRow arena (l .«device_base») (l .«device_len»)) indices) [] (supers .1) .0 in
+    let bases = both (pageRows arena base l) _ (pages .1) in
+    let supers = both (superRows arena sup l) _ (bases .1) in
+    let device = both (deviceRows arena 6 (deviceWindow l)) [] (supers .1) .0 in
     record {
       long = eqb-true _ _ (not-false _ (test _ _ _ (long .0)));
-      window-words = λ j h. rw (in-1 l base sup j h) (windows arena base sup l g (level1 .0) j h);
+      window-words = λ j h. rw (l1-word l base sup j h) (windows arena base sup l g (level1 .0) j h);
       image-block = λ j h. rw (in-2 l base sup j h) (image-words arena base sup l g (code .0) j h);
       data-table = λ j h. rw (in-3 l base sup j h) (data-words arena base sup l g (pages .0) j h);
       pages = page-words arena base sup l g (bases .0);
       supers = super-words arena base sup l g (supers .0);
-      devices = device-words arena base sup l g devices;
+      devices = λ j h. device-words arena base sup l g 6 (deviceWindow l) device j h ∙ sym (device-6 base sup l g j h);
     }

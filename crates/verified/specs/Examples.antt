@@ -1,20 +1,16 @@
 -- Document 01's examples of rows 18 to 22, and verification's order: of two wrong words the first in its list is told.
-use Prim.Native.Nat.{ℕ, _+_, _-_, _*_}
+use Prim.Native.Nat.{ℕ}
 use mathlib.Core.List.{List, [], _∷_, map}
 use mathlib.Core.Path.{_≡_}
-use lib.ListN.{set, replicate}
+use lib.ListN.{replicate}
 use Rattle.layout.specs.Layout.{layoutOf}
-use Rattle.layout.specs.Size.{entries, arenaLength}
+use Rattle.layout.specs.Size.{arenaLength}
 use Rattle.refusal.specs.Table.{Row, row, Outcome, refused, first}
 use Rattle.rows.specs.Examples.{sceneS, baseS, supS, line}
 use Rattle.rows.specs.Faults.{Fault, fault, FirstTold}
 use Rattle.rows.specs.WithinRows.{imaged}
-use Rattle.verified.specs.Verified.{Guarding, Encoded, Verifies}
+use Rattle.verified.specs.Verified.{Guarding, Encoded, Verifies, stored}
 use Rattle.verify_rows.specs.Verifying.{verifyRows}
-
--- another word at an index of a table
-abbrev pub stored : ℕ → ℕ → ℕ → List ℕ → List ℕ
-stored t j d arena = set arena ((t - 1) * entries + j) d
 
 -- what verification tells of an arena, with S's maps
 abbrev pub verdict : List ℕ → List ℕ → Outcome

@@ -1,19 +1,20 @@
 -- What verification accepts: the words that encoding leaves, and words that its decoders read alike.
-use Prim.Native.Nat.{ℕ, _+_, _*_, _<_}
+use Prim.Native.Nat.{ℕ, _+_, _<_}
 use mathlib.Core.List.{List}
 use mathlib.Core.Path.{_≡_}
 use lib.ListN.{length, getD, set}
 use Rattle.arena.specs.Encoded.{target}
-use Rattle.decode.specs.Decoded.{decodedPage, decodedBlock, decodedTable, decodedDevice}
+use Rattle.decode.specs.Decoded.{decodedTable, decodedDevice}
 use Rattle.decode.specs.declared.DecodedBlock.the-variants.{Nothing as NoBlock}
 use Rattle.decode.specs.declared.DecodedLeaf.the-variants.{Nothing as NoLeaf}
 use Rattle.layout.specs.Layout.{layoutOf}
-use Rattle.layout.specs.Size.{entries, boardLimit, arenaLength}
+use Rattle.layout.specs.Size.{entries, boardLimit, arenaLength, firstWord}
 use Rattle.layout.specs.declared.Layout.{Layout}
 use Rattle.refusal.specs.Table.{accepted, first}
 use Rattle.rows.specs.Examples.{sceneS, baseS, supS}
 use Rattle.rows.specs.Rows.{guardRows}
 use Rattle.verify_rows.specs.Verifying.{word, verifyRows}
+use Rattle.verify_rows.specs.Word.{readPage, readBlock}
 
 -- rows 2 to 14 let layout and maps by
 abbrev pub Guarding : List ℕ → List ℕ → Layout → Type 0
@@ -24,19 +25,23 @@ pub record Encoded (arena base sup : List ℕ) (l : Layout) : Type 0 where
   pub long : length arena ≡ arenaLength
   pub words : (i : ℕ) → i < arenaLength → getD arena i 0 ≡ target l base sup i
 
+-- what it leaves at index j of table t
+abbrev pub encodedWord : Layout → List ℕ → List ℕ → ℕ → ℕ → ℕ
+encodedWord l base sup t j = target l base sup (firstWord t + j)
+
 -- a word that names a table, or the image's block, is read as what encoding leaves there is, and is 0 where that is 0
 abbrev pub Kept : {A : Type 0} → (ℕ → A) → ℕ → ℕ → Type 0
 Kept read d w = (read d ≡ read w) × (w ≡ 0 → d ≡ 0)
 
--- every word is read as what encoding leaves there is; in tables 4 to 6 it need not be 0 where that is
+-- every word is read as what encoding leaves there is; from table 4 on it need not be 0 where that is
 pub record ReadAlike (arena base sup : List ℕ) (l : Layout) : Type 0 where
   pub long : length arena ≡ arenaLength
-  pub window-words : (j : ℕ) → j < entries → Kept decodedTable (word arena 1 j) (target l base sup j)
-  pub image-block : (j : ℕ) → j < entries → Kept decodedBlock (word arena 2 j) (target l base sup (entries + j))
-  pub data-table : (j : ℕ) → j < entries → Kept decodedTable (word arena 3 j) (target l base sup (2 * entries + j))
-  pub pages : (j : ℕ) → j < entries → decodedPage (word arena 4 j) ≡ decodedPage (target l base sup (3 * entries + j))
-  pub supers : (j : ℕ) → j < entries → decodedBlock (word arena 5 j) ≡ decodedBlock (target l base sup (4 * entries + j))
-  pub devices : (j : ℕ) → j < entries → decodedDevice (word arena 6 j) ≡ decodedDevice (target l base sup (5 * entries + j))
+  pub window-words : (j : ℕ) → j < entries → Kept decodedTable (word arena 1 j) (encodedWord l base sup 1 j)
+  pub image-block : (j : ℕ) → j < entries → Kept readBlock (word arena 2 j) (encodedWord l base sup 2 j)
+  pub data-table : (j : ℕ) → j < entries → Kept decodedTable (word arena 3 j) (encodedWord l base sup 3 j)
+  pub pages : (j : ℕ) → j < entries → readPage (word arena 4 j) ≡ readPage (encodedWord l base sup 4 j)
+  pub supers : (j : ℕ) → j < entries → readBlock (word arena 5 j) ≡ readBlock (encodedWord l base sup 5 j)
+  pub devices : (j : ℕ) → j < entries → decodedDevice (word arena 6 j) ≡ decodedDevice (encodedWord l base sup 6 j)
 
 abbrev pub Verifies : List ℕ → List ℕ → List ℕ → Layout → Type 0
 Verifies arena base sup l = first (verifyRows arena base sup l) ≡ accepted
@@ -54,18 +59,16 @@ abbrev pub EncodedVerifies : Type 0
 EncodedVerifies =
     (arena base sup : List ℕ) (l : Layout) → Guarding base sup l → Encoded arena base sup l → Verifies arena base sup l
 
+-- another word at an index of a table
+abbrev pub stored : ℕ → ℕ → ℕ → List ℕ → List ℕ
+stored t j d arena = set arena (firstWord t + j) d
+
 -- 'It accepts a nonzero word that its decoder reads as nothing .. It ignores device access bits': an encoded arena with one other word,
 -- at index j of table 5 or 6
 pub record LetsBy (arena base sup : List ℕ) (l : Layout) (j d : ℕ) : Type 0 where
-  pub empty-super :
-      target l base sup (4 * entries + j) ≡ 0 →
-      decodedBlock d ≡ NoLeaf → Verifies (set arena (4 * entries + j) d) base sup l
-  pub empty-device :
-      target l base sup (5 * entries + j) ≡ 0 →
-      decodedDevice d ≡ NoBlock → Verifies (set arena (5 * entries + j) d) base sup l
-  pub device-access :
-      decodedDevice d ≡ decodedDevice (target l base sup (5 * entries + j)) →
-      Verifies (set arena (5 * entries + j) d) base sup l
+  pub empty-super : encodedWord l base sup 5 j ≡ 0 → readBlock d ≡ NoLeaf → Verifies (stored 5 j d arena) base sup l
+  pub empty-device : encodedWord l base sup 6 j ≡ 0 → decodedDevice d ≡ NoBlock → Verifies (stored 6 j d arena) base sup l
+  pub device-access : decodedDevice d ≡ decodedDevice (encodedWord l base sup 6 j) → Verifies (stored 6 j d arena) base sup l
 
 abbrev pub LettingBy : Type 0
 LettingBy =
@@ -75,9 +78,9 @@ LettingBy =
 -- such words in scene S: its page table named from super slot 0, its data as a Normal block in device slot 49, and its device
 -- with access 00
 pub record InSceneS (arena : List ℕ) : Type 0 where
-  pub table-word : Verifies (set arena (4 * entries + 0) 0x0000_0000_4000_3003) baseS supS (layoutOf sceneS)
-  pub normal-block : Verifies (set arena (5 * entries + 0x49) 0x0000_0000_5000_07FD) baseS supS (layoutOf sceneS)
-  pub no-access : Verifies (set arena (5 * entries + 0x48) 0x0040_0000_0900_0401) baseS supS (layoutOf sceneS)
+  pub table-word : Verifies (stored 5 0 0x0000_0000_4000_3003 arena) baseS supS (layoutOf sceneS)
+  pub normal-block : Verifies (stored 6 0x49 0x0000_0000_5000_07FD arena) baseS supS (layoutOf sceneS)
+  pub no-access : Verifies (stored 6 0x48 0x0040_0000_0900_0401 arena) baseS supS (layoutOf sceneS)
 
 abbrev pub SceneS : Type 0
 SceneS = (arena : List ℕ) → Encoded arena baseS supS (layoutOf sceneS) → InSceneS arena

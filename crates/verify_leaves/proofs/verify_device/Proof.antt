@@ -42,7 +42,8 @@ returns : tie.Need-returns Inv-loop μ-loop
 returns c =
     let v = c .before .before in
     let h = v .before .before in
-    refuses (rest-walk _ entries) (h .loop .j) (h .loop .inv) (v .before .loop-test .taken) (c .enum-told2 .given .1) (v .device-slot .ensures)
+    refuses (rest-walk _ entries) (h .loop .j) (h .loop .inv) (v .before .loop-test .taken)
+    (c .enum-told2 .given .1) (v .device-slot .ensures)
 
 add-j : tie.Need-add-j Inv-loop μ-loop
 add-j c = search needs
@@ -54,7 +55,8 @@ loop-again : tie.Need-loop-again Inv-loop μ-loop
 loop-again c =
     let v = c .before .before in
     let h = v .before .before in
-    passes (rest-walk _ entries) (h .loop .j) (h .loop .inv) (v .before .loop-test .taken) (c .enum-told .given .1) (v .device-slot .ensures)
+    passes (rest-walk _ entries) (h .loop .j) (h .loop .inv) (v .before .loop-test .taken)
+    (c .enum-told .given .1) (v .device-slot .ensures)
 
 returns-2 : tie.Need-returns-2 Inv-loop μ-loop
 returns-2 c = let h = c .before in ends (rest-walk _ entries) (h .loop .j) (h .loop .inv) (c .loop-test .left)

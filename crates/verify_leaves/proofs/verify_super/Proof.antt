@@ -13,7 +13,8 @@ use Rattle.verify_leaves.proofs.verify_super.Statement.{statement}
 use Rattle.verify_leaves.proofs.verify_super.Tie as tie
 
 abbrev Inv-loop : tie.InvT-loop
-Inv-loop arena sup ipa pa exempt m₀ m = first (each (superRow arena sup ipa pa exempt) indices) ≡ first (each (superRow arena sup ipa pa exempt) (rest entries m))
+Inv-loop arena sup ipa pa exempt m₀ m =
+    let row = superRow arena sup ipa pa exempt in first (each row indices) ≡ first (each row (rest entries m))
 
 abbrev μ-loop : tie.MeasureT-loop
 μ-loop arena sup ipa pa exempt m₀ m = entries - m
@@ -44,7 +45,8 @@ returns : tie.Need-returns Inv-loop μ-loop
 returns c =
     let v = c .before .before in
     let h = v .before .before in
-    refuses (rest-walk _ entries) (h .loop .m) (h .loop .inv) (v .before .loop-test .taken) (c .enum-told2 .given .1) (v .super-frame .ensures)
+    refuses (rest-walk _ entries) (h .loop .m) (h .loop .inv) (v .before .loop-test .taken)
+    (c .enum-told2 .given .1) (v .super-frame .ensures)
 
 add-m : tie.Need-add-m Inv-loop μ-loop
 add-m c = search needs
@@ -56,7 +58,8 @@ loop-again : tie.Need-loop-again Inv-loop μ-loop
 loop-again c =
     let v = c .before .before in
     let h = v .before .before in
-    passes (rest-walk _ entries) (h .loop .m) (h .loop .inv) (v .before .loop-test .taken) (c .enum-told .given .1) (v .super-frame .ensures)
+    passes (rest-walk _ entries) (h .loop .m) (h .loop .inv) (v .before .loop-test .taken)
+    (c .enum-told .given .1) (v .super-frame .ensures)
 
 returns-2 : tie.Need-returns-2 Inv-loop μ-loop
 returns-2 c = let h = c .before in ends (rest-walk _ entries) (h .loop .m) (h .loop .inv) (c .loop-test .left)
