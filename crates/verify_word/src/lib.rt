@@ -9,6 +9,7 @@ use perm::Perm;
 use refusal::Refusal;
 use refusal::Verdict;
 ghost use mathlib.Core.Path.{_≡_};
+ghost use lib.ListN.{getD};
 ghost use Rattle.decode.specs.Emitted.{leafWith};
 ghost use Rattle.decode.specs.declared.DecodedBlock.the-variants.{Device};
 ghost use Rattle.decode.specs.declared.DecodedLeaf.the-variants.{Leaf};
@@ -18,15 +19,21 @@ ghost use Rattle.refusal.specs.Table.{first};
 ghost use Rattle.verify_rows.specs.Verifying.{word};
 ghost use Rattle.verify_rows.specs.Word.{readPage, readBlock, sameTable, sameLeaf, sameBlock, row18, row19, wantedLeaf, leafRow, blockRow};
 
-// Word j of a table, 0 past the arena's end.
-pub fn word_at(arena: &[u64], table: u32, j: u32) -> u64
-    ensures { λ r. ⌜ r ≡ word (now (arena .entry)) table j ⌝ }
+// A word of the arena, 0 past its end.
+pub fn word_at(arena: &[u64], i: usize) -> u64
+    ensures { λ r. ⌜ r ≡ getD (now (arena .entry)) i 0 ⌝ }
 {
-    let i = Layout::first_word(table) + j as usize;
     if arena.len() <= i {
         return 0;
     }
     arena[i]
+}
+
+// Word j of a table.
+pub fn table_word(arena: &[u64], table: u32, j: u32) -> u64
+    ensures { λ r. ⌜ r ≡ word (now (arena .entry)) table j ⌝ }
+{
+    word_at(arena, Layout::first_word(table) + j as usize)
 }
 
 // What verification reads of a leaf: a page's, and a block's.

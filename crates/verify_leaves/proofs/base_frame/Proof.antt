@@ -4,11 +4,11 @@ use Rattle.verify_rows.specs.Verifying.{baseRow}
 use Rattle.verify_leaves.proofs.base_frame.Statement.{statement}
 use Rattle.verify_leaves.proofs.base_frame.Tie as tie
 
-cast-word-at : tie.Need-cast-word-at
-cast-word-at c = search needs
+cast-table-word : tie.Need-cast-table-word
+cast-table-word c = search needs
 
-word-at-requires : tie.Need-word-at-requires
-word-at-requires c κs = search needs
+table-word-requires : tie.Need-table-word-requires
+table-word-requires c κs = search needs
 
 entry-at-requires : tie.Need-entry-at-requires
 entry-at-requires c κs = search needs
@@ -36,7 +36,7 @@ returns c =
     let pa = want .before in
     let entry = pa .before in
     rw (
-      ← entry .before .word-at .ensures,
+      ← entry .before .table-word .ensures,
       ← entry .entry-at .ensures,
       ← pa .page-address .ensures,
       ← want .wanted-leaf .ensures,
@@ -48,8 +48,8 @@ pub base-frame-spec : {M : Type 1} → statement M
 base-frame-spec =
     tie.close
     (tie.spec
-    cast-word-at
-    word-at-requires
+    cast-table-word
+    table-word-requires
     entry-at-requires
     cast-page-address
     page-address-requires

@@ -4,11 +4,11 @@ use borrow.Author.Needs.{needs}
 use Rattle.verify_leaves.proofs.device_slot.Statement.{statement}
 use Rattle.verify_leaves.proofs.device_slot.Tie as tie
 
-cast-word-at : tie.Need-cast-word-at
-cast-word-at c = search needs
+cast-table-word : tie.Need-cast-table-word
+cast-table-word c = search needs
 
-word-at-requires : tie.Need-word-at-requires
-word-at-requires c κs = search needs
+table-word-requires : tie.Need-table-word-requires
+table-word-requires c κs = search needs
 
 wanted-block-requires : tie.Need-wanted-block-requires
 wanted-block-requires c κs = search needs
@@ -20,14 +20,14 @@ returns : tie.Need-returns
 unfolding deviceRow
 returns c =
     let want = c .before in
-    rw (← want .before .word-at .ensures, ← want .wanted-block .ensures) (c .device-block .ensures)
+    rw (← want .before .table-word .ensures, ← want .wanted-block .ensures) (c .device-block .ensures)
 
 pub device-slot-spec : {M : Type 1} → statement M
 device-slot-spec =
     tie.close
     (tie.spec
-    cast-word-at
-    word-at-requires
+    cast-table-word
+    table-word-requires
     wanted-block-requires
     device-block-requires
     returns)

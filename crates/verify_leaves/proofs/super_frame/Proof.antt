@@ -7,11 +7,11 @@ use Rattle.verify_leaves.proofs.super_frame.Tie as tie
 super-index-requires : tie.Need-super-index-requires
 super-index-requires c κs = search needs
 
-cast-word-at : tie.Need-cast-word-at
-cast-word-at c = search needs
+cast-table-word : tie.Need-cast-table-word
+cast-table-word c = search needs
 
-word-at-requires : tie.Need-word-at-requires
-word-at-requires c κs = search needs
+table-word-requires : tie.Need-table-word-requires
+table-word-requires c κs = search needs
 
 entry-at-requires : tie.Need-entry-at-requires
 entry-at-requires c κs = search needs
@@ -41,7 +41,7 @@ returns c =
     let word = entry .before in
     rw (
       ← word .before .super-index .ensures,
-      ← word .word-at .ensures,
+      ← word .table-word .ensures,
       ← entry .entry-at .ensures,
       ← pa .block-address .ensures,
       ← want .wanted-leaf .ensures,
@@ -54,8 +54,8 @@ super-frame-spec =
     tie.close
     (tie.spec
     super-index-requires
-    cast-word-at
-    word-at-requires
+    cast-table-word
+    table-word-requires
     entry-at-requires
     cast-block-address
     block-address-requires

@@ -12,11 +12,11 @@ returns c = rw (not-true (c .before .before .args .present) (c .if1 .taken))
 l2-index-requires : tie.Need-l2-index-requires
 l2-index-requires c κs = search needs
 
-cast-word-at : tie.Need-cast-word-at
-cast-word-at c = search needs
+cast-table-word : tie.Need-cast-table-word
+cast-table-word c = search needs
 
-word-at-requires : tie.Need-word-at-requires
-word-at-requires c κs = search needs
+table-word-requires : tie.Need-table-word-requires
+table-word-requires c κs = search needs
 
 image-block-requires : tie.Need-image-block-requires
 image-block-requires c κs = search needs
@@ -27,11 +27,11 @@ returns-2 c =
     rw (
       not-false (i .before .before .before .args .present) (i .before .if1 .left),
       ← i .l2-index .ensures,
-      ← c .before .word-at .ensures,
+      ← c .before .table-word .ensures,
     )
     (c .image-block .ensures)
 
 pub image-word-spec : {M : Type 1} → statement M
 image-word-spec =
     tie.close
-    (tie.spec returns l2-index-requires cast-word-at word-at-requires image-block-requires returns-2)
+    (tie.spec returns l2-index-requires cast-table-word table-word-requires image-block-requires returns-2)

@@ -13,11 +13,11 @@ returns c = rw (not-true (c .before .before .before .args .area .present) (c .if
 l1-index-requires : tie.Need-l1-index-requires
 l1-index-requires c κs = search needs
 
-cast-word-at : tie.Need-cast-word-at
-cast-word-at c = search needs
+cast-table-word : tie.Need-cast-table-word
+cast-table-word c = search needs
 
-word-at-requires : tie.Need-word-at-requires
-word-at-requires c κs = search needs
+table-word-requires : tie.Need-table-word-requires
+table-word-requires c κs = search needs
 
 table-entry-requires : tie.Need-table-entry-requires
 table-entry-requires c κs = search needs
@@ -29,10 +29,10 @@ returns-2 c =
     rw (
       not-false (i .before .before .before .before .args .area .present) (i .before .if1 .left),
       ← i .l1-index .ensures,
-      ← c .before .word-at .ensures,
+      ← c .before .table-word .ensures,
     )
     (c .table-entry .ensures)
 
 pub live-word-spec : {M : Type 1} → statement M
 live-word-spec =
-    tie.close (tie.spec returns l1-index-requires cast-word-at word-at-requires table-entry-requires returns-2)
+    tie.close (tie.spec returns l1-index-requires cast-table-word table-word-requires table-entry-requires returns-2)

@@ -27,11 +27,11 @@ loop-holds c =
     let a = c .before .before .args in
     ap first (zeros (now (a .arena)) (a .l) (a .table) 0 (c .past-zeros .result) (c .past-zeros .ensures))
 
-cast-word-at : tie.Need-cast-word-at Inv-loop μ-loop
-cast-word-at c = search needs
+cast-table-word : tie.Need-cast-table-word Inv-loop μ-loop
+cast-table-word c = search needs
 
-word-at-requires : tie.Need-word-at-requires Inv-loop μ-loop
-word-at-requires c κs = search needs
+table-word-requires : tie.Need-table-word-requires Inv-loop μ-loop
+table-word-requires c κs = search needs
 
 live-at-requires : tie.Need-live-at-requires Inv-loop μ-loop
 live-at-requires c κs = search needs
@@ -48,7 +48,7 @@ returns c =
     rw (
       h .loop .inv,
       here,
-      ← w .word-at .ensures,
+      ← w .table-word .ensures,
       ne-eqb _ _ (t .if1 .taken),
       ← v .live-at .ensures,
       not-true (v .live-at .result) (c .if2 .taken),
@@ -79,12 +79,12 @@ loop-again c =
       ← skipped,
       h .loop .inv,
       here,
-      ← w .word-at .ensures,
+      ← w .table-word .ensures,
       ne-eqb _ _ (t .0 .taken),
       ← t .1 .ensures,
       not-false (t .1 .result) (t .2 .left),
     ))
-    (λ t. rw (← skipped, h .loop .inv, here, ← w .word-at .ensures, eq-eqb _ _ (t .left)))
+    (λ t. rw (← skipped, h .loop .inv, here, ← w .table-word .ensures, eq-eqb _ _ (t .left)))
     (v .if1 .came)
 
 returns-2 : tie.Need-returns-2 Inv-loop μ-loop
@@ -98,8 +98,8 @@ other-words-spec =
     μ-loop
     past-zeros-requires
     loop-holds
-    cast-word-at
-    word-at-requires
+    cast-table-word
+    table-word-requires
     live-at-requires
     returns
     add-past-zeros

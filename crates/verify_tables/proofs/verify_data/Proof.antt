@@ -18,16 +18,16 @@ found :
     let j = l2Slot (a .l .«data_ipa_base») in
     outcomeOf (c .table-entry .result) ≡ first (row18 3 j (word (now (a .arena)) 3 j) (a .l .«l3_data_pa»))
 found c =
-    let w = c .before in rw (← w .before .l2-index .ensures, ← w .word-at .ensures) (c .table-entry .ensures)
+    let w = c .before in rw (← w .before .l2-index .ensures, ← w .table-word .ensures) (c .table-entry .ensures)
 
 l2-index-requires : tie.Need-l2-index-requires
 l2-index-requires c κs = search needs
 
-cast-word-at : tie.Need-cast-word-at
-cast-word-at c = search needs
+cast-table-word : tie.Need-cast-table-word
+cast-table-word c = search needs
 
-word-at-requires : tie.Need-word-at-requires
-word-at-requires c κs = search needs
+table-word-requires : tie.Need-table-word-requires
+table-word-requires c κs = search needs
 
 table-entry-requires : tie.Need-table-entry-requires
 table-entry-requires c κs = search needs
@@ -60,8 +60,8 @@ verify-data-spec =
     tie.close
     (tie.spec
     l2-index-requires
-    cast-word-at
-    word-at-requires
+    cast-table-word
+    table-word-requires
     table-entry-requires
     enum-told
     enum-told-2

@@ -6,16 +6,8 @@ use denote.Ref.{now}
 use Rattle.verify_word.proofs.word_at.Statement.{statement}
 use Rattle.verify_word.proofs.word_at.Tie as tie
 
-first-word-requires : tie.Need-first-word-requires
-first-word-requires c κs = search needs
-
-add-i : tie.Need-add-i
-add-i c = search needs
-
 returns : tie.Need-returns
-returns c =
-    let i = c .before in
-    rw (← i .first-word .ensures) (sym (List·getD-eq-default (now (i .before .before .args .arena)) 0 (c .if1 .taken)))
+returns c = sym (List·getD-eq-default (now (c .before .args .arena)) 0 (c .if1 .taken))
 
 mul-result : tie.Need-mul-result
 mul-result c = search needs
@@ -24,7 +16,7 @@ shared-slice-read-result : tie.Need-shared-slice-read-result
 shared-slice-read-result c = search needs
 
 returns-2 : tie.Need-returns-2
-returns-2 c = rw (← c .before .before .first-word .ensures)
+returns-2 c = search needs
 
 pub word-at-spec : {M : Type 1} → statement M
-word-at-spec = tie.close (tie.spec first-word-requires add-i returns mul-result shared-slice-read-result returns-2)
+word-at-spec = tie.close (tie.spec returns mul-result shared-slice-read-result returns-2)
