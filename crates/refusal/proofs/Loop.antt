@@ -4,13 +4,13 @@ use mathlib.Core.List.{List, _++_}
 use mathlib.Core.Path.{_≡_, sym, _∙_}
 use native.Mathlib.Omega.{arith}
 use lib.ListN.{length, getD, drop}
-use Rattle.refusal.proofs.First.{next, stop}
-use Rattle.refusal.proofs.Parts.{each-at, each-end, pairs-at, pairs-end}
 use Rattle.refusal.specs.Outcome.{outcomeOf}
 use Rattle.refusal.specs.Table.{Row, Outcome, accepted, first, each, pairs}
 use Rattle.refusal.specs.declared.Refusal.{Refusal}
-use Rattle.refusal.specs.declared.Verdict.{Verdict}
 use Rattle.refusal.specs.declared.Verdict.the-variants.{Accepted, Refused}
+use Rattle.refusal.specs.declared.Verdict.{Verdict}
+use Rattle.refusal.proofs.First.{next, stop}
+use Rattle.refusal.proofs.Parts.{each-at, each-end, pairs-at, pairs-end}
 
 -- the rows from i on are those of i, then those from i + 1 on; from n on there are none
 pub record Walk (n : ℕ) (here from : ℕ → List Row) : Type 0 where

@@ -21,11 +21,11 @@ use Rattle.rows.specs.Rows.{row1, mapRows, refusals}
 use Rattle.verify_rows.proofs.Range.{everywhere}
 use Rattle.verify_rows.specs.Verifying.{word, range, indices, liveRow, liveAt, otherRow, otherRows, l1Rows, imageRows, dataRows, baseRow, pageRows, superRow, superRows, wantedBlock, deviceRow, deviceRows, encodingRows, verifyRows}
 use Rattle.verify_rows.specs.Word.{readPage, readBlock, row18, row19, spurious, wantedLeaf, leafRow, blockRow}
+use Rattle.verified.specs.Examples.{Wrong}
+use Rattle.verified.specs.Verified.{Verifies, stored}
 use Rattle.verified.proofs.Sparse.{member, rising, sparse}
 use Rattle.verified.proofs.Stored.{stored-word}
 use Rattle.verified.proofs.Told.{halves, neither}
-use Rattle.verified.specs.Examples.{Wrong}
-use Rattle.verified.specs.Verified.{Verifies, stored}
 
 -- the other words
 

@@ -11,8 +11,8 @@ use borrow.Author.Tests.{eq-eqb, eqb-true}
 use Rattle.fields.specs.Named.{pick}
 use Rattle.layout.specs.Size.{entries, tableCount, arenaLength, firstWord}
 use Rattle.verify_rows.specs.Verifying.{word}
-use Rattle.verified.proofs.Told.{halves}
 use Rattle.verified.specs.Verified.{stored}
+use Rattle.verified.proofs.Told.{halves}
 
 -- at index i of table s
 module _ (arena : List ℕ) (s i d : ℕ) (long : length arena ≡ arenaLength) (from : 1 ≤ s) (to : s ≤ tableCount) (below : i < entries) where

@@ -1,11 +1,11 @@
 -- What verification accepts is read alike: no row applies, so each word is read as what is wanted, which is what encoding leaves there.
 use Prim.Native.Nat.{ℕ, _+_, _-_, _*_, _%_, _<_}
-use mathlib.Core.Bool.{Bool, true, false}
+use mathlib.Core.Bool.{Bool, true, false, _&&_}
 use mathlib.Core.List.{List, [], _++_, flatMap}
 use mathlib.Core.Path.{_≡_, refl, sym, ap, _∙_}
 use native.Mathlib.Omega.{arith}
 use lib.Dec.{eqb}
-use borrow.Author.Tests.{eq-eqb, eqb-true, not-false}
+use borrow.Author.Tests.{eqb-true, not-false}
 use Rattle.accepted.proofs.Guarded.{guarded-facts}
 use Rattle.accepted.specs.Guarded.{Guarded}
 use Rattle.arena.proofs.At.{l1At, imageAt as imageWordAt, dataAt as dataWordAt}
@@ -26,10 +26,10 @@ use Rattle.refusal.specs.Table.{given, each}
 use Rattle.rows.specs.Rows.{row1, mapRows, refusals}
 use Rattle.target_word.proofs.Place.{in-2, in-3}
 use Rattle.verify_rows.proofs.Range.{everywhere}
-use Rattle.verify_rows.specs.Verifying.{word, liveRow, windowAt, imageAt, liveAt, otherRow, otherRows, l1Rows, imageRows, dataRows, baseRow, pageRows, superRow, superRows, wantedBlock, deviceRow, deviceRows, encodingRows, verifyRows}
+use Rattle.verify_rows.proofs.Read.{held-page, held-block}
+use Rattle.verify_rows.specs.Verifying.{word, liveRow, windowAt, liveAt, otherRow, otherRows, l1Rows, imageRows, dataRows, baseRow, pageRows, superRow, superRows, wantedBlock, deviceRow, deviceRows, encodingRows, verifyRows}
 use Rattle.verify_rows.specs.Word.{readPage, readBlock, row18, row19}
 use Rattle.verified.specs.Verified.{encodedWord, Kept, VerifiedAlike}
-use Rattle.verify_rows.proofs.Read.{held-page, held-block}
 use Rattle.verified.proofs.Areas.{somebody, Named, l1-word, l1-live, l1-none}
 use Rattle.verified.proofs.Told.{halves, leaf-row-told, block-row-told, row18-told, row19-told, other-told}
 use Rattle.verified.proofs.Words.{page-wanted, super-wanted, device-6}
@@ -80,49 +80,41 @@ module _ (arena base sup : List ℕ) (l : Layout) (g : Guarded boardLimit base s
       go false q parts =
           nothing decodedTable _ _ (others 1 (both (otherRows arena l 1) [] (parts .1) .0) j h q) (l1-none l (g .layout) j q)
 
+  -- a table with one word w, at slot s, where there is one
+  only-word :
+      {A : Type 0} (read : ℕ → A) (t s w : ℕ) (there : Bool) →
+      (there ≡ true → read (word arena t s) ≡ read w) →
+      (w ≡ 0 → ⊥) →
+      otherRows arena l t ≡ [] →
+      (j : ℕ) → j < entries → liveAt l t j ≡ (there && eqb s j) → Kept read (word arena t j) (pick (there && eqb s j) w 0)
+  only-word read t s w there told named clean j h live = go (there && eqb s j) refl
+    where
+      go : (b : Bool) → (there && eqb s j) ≡ b → Kept read (word arena t j) (pick b w 0)
+      go true q =
+          let p = halves there _ q in
+          let at = eqb-true s j (p .1) in
+          some read (word arena t j) w (sym (ap (λ (n : ℕ). read (word arena t n)) at) ∙ told (p .0)) named
+      go false q = nothing read _ _ (others t clean j h (live ∙ q)) refl
+
   image-words : imageRows arena l ≡ [] → (j : ℕ) → j < entries → Kept readBlock (word arena 2 j) (imageWordAt l j)
   unfolding imageRows flatMap
   image-words e j h =
-      let parts = both (given (image .present) (row19 (word arena 2 (l2Slot (image .ipa))) (image .pa))) _ e in
-      go (image .present) (eqb (l2Slot (image .ipa)) j) refl refl (parts .0) (both (otherRows arena l 2) [] (parts .1) .0)
-    where
-      absent : otherRows arena l 2 ≡ [] → imageAt l j ≡ false → Kept readBlock (word arena 2 j) (imageWordAt l j)
-      absent o n = nothing readBlock _ _ (others 2 o j h n) (ap (λ t. pick t (imageTo (image .pa)) 0) n)
-
-      go :
-          (p b : Bool) → image .present ≡ p → eqb (l2Slot (image .ipa)) j ≡ b →
-          given (image .present) (row19 (word arena 2 (l2Slot (image .ipa))) (image .pa)) ≡ [] →
-          otherRows arena l 2 ≡ [] → Kept readBlock (word arena 2 j) (imageWordAt l j)
-      go true true p q r o =
-          let s = l2Slot (image .ipa) in
-          let here = row19-told (word arena 2 s) (image .pa) (under (image .present) _ p r) in
-          let at : imageWordAt l s ≡ imageTo (image .pa) = rw (p, eq-eqb s s refl) in
-          let wanted = ap readBlock at ∙ emitted-decodes .image (blockAddress (image .pa)) (held-block (image .pa)) in
-          rw (← eqb-true s j q)
-          (some readBlock (word arena 2 s) (imageWordAt l s) (here ∙ sym wanted) (λ z. let n = sym at ∙ z in omega (arith, n)))
-      go true false p q r o = absent o (rw (p, q))
-      go false b p q r o = absent o (rw p)
+      let s = l2Slot (image .ipa) in
+      let parts = both (given (image .present) (row19 (word arena 2 s) (image .pa))) _ e in
+      let wanted = emitted-decodes .image (blockAddress (image .pa)) (held-block (image .pa)) in
+      only-word readBlock 2 s (imageTo (image .pa)) (image .present)
+      (λ p. row19-told (word arena 2 s) (image .pa) (under (image .present) _ p (parts .0)) ∙ sym wanted)
+      (λ z. omega (arith, z)) (both (otherRows arena l 2) [] (parts .1) .0) j h refl
 
   data-words : dataRows arena l ≡ [] → (j : ℕ) → j < entries → Kept decodedTable (word arena 3 j) (dataWordAt l j)
   unfolding dataRows flatMap
   data-words e j h =
       let s = l2Slot (l .«data_ipa_base») in
-      let parts = both (row18 3 s (word arena 3 s) (l .«l3_data_pa»)) _ e in
-      go (eqb s j) refl (parts .0) (both (otherRows arena l 3) [] (parts .1) .0)
-    where
-      go :
-          (b : Bool) → eqb (l2Slot (l .«data_ipa_base»)) j ≡ b →
-          row18 3 (l2Slot (l .«data_ipa_base»)) (word arena 3 (l2Slot (l .«data_ipa_base»))) (l .«l3_data_pa») ≡ [] →
-          otherRows arena l 3 ≡ [] → Kept decodedTable (word arena 3 j) (dataWordAt l j)
-      go true q r o =
-          let s = l2Slot (l .«data_ipa_base») in
-          let here = row18-told 3 s (word arena 3 s) (l .«l3_data_pa») r in
-          let at : dataWordAt l s ≡ tableTo (l .«l3_data_pa») = rw (eq-eqb s s refl) in
-          let wanted = ap decodedTable at ∙ emitted-decodes .table (pageAddress (l .«l3_data_pa»)) (held-page (l .«l3_data_pa»)) in
-          rw (← eqb-true s j q)
-          (some decodedTable (word arena 3 s) (dataWordAt l s) (here ∙ sym wanted) (λ z. let n = sym at ∙ z in omega (arith, n)))
-      go false q r o =
-          nothing decodedTable _ _ (others 3 o j h q) (ap (λ t. pick t (tableTo (l .«l3_data_pa»)) 0) q)
+      let pa = l .«l3_data_pa» in
+      let parts = both (row18 3 s (word arena 3 s) pa) _ e in
+      let wanted = emitted-decodes .table (pageAddress pa) (held-page pa) in
+      only-word decodedTable 3 s (tableTo pa) true (λ p. row18-told 3 s (word arena 3 s) pa (parts .0) ∙ sym wanted)
+      (λ z. omega (arith, z)) (both (otherRows arena l 3) [] (parts .1) .0) j h refl
 
   page-words : pageRows arena base l ≡ [] → (j : ℕ) → j < entries → readPage (word arena 4 j) ≡ readPage (encodedWord l base sup 4 j)
   unfolding baseRow

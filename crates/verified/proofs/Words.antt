@@ -21,10 +21,10 @@ use Rattle.layout.specs.Window.{deviceWindow, l2Slot}
 use Rattle.layout.specs.declared.Layout.{Layout}
 use Rattle.layout.specs.declared.Window.{Window}
 use Rattle.target_word.proofs.Place.{in-4, in-5, in-6}
-use Rattle.verified.specs.Verified.{encodedWord}
 use Rattle.verify_rows.proofs.Read.{held-block, page-read, block-read}
 use Rattle.verify_rows.specs.Verifying.{covered, within, wantedBlock}
 use Rattle.verify_rows.specs.Word.{readPage, readBlock, wantedLeaf}
+use Rattle.verified.specs.Verified.{encodedWord}
 
 module _ (base sup : List ℕ) (l : Layout) (g : Guarded boardLimit base sup l) where
   pub page-wanted :

@@ -12,8 +12,8 @@ use Rattle.decode.specs.Decoded.{decodedDevice}
 use Rattle.decode.specs.declared.DecodedBlock.the-variants.{Device, Nothing}
 use Rattle.desc.specs.Descriptor.{pageAddress, blockAddress}
 use Rattle.fields.specs.Named.{pick}
-use Rattle.verify_rows.proofs.Read.{held-block, page-read, block-read, no-leaf-row, no-block-row}
 use Rattle.layout.specs.declared.Window.{Window}
+use Rattle.verify_rows.proofs.Read.{held-block, page-read, block-read, no-leaf-row, no-block-row}
 use Rattle.verify_rows.specs.Verifying.{covered, within, wantedBlock}
 use Rattle.verify_rows.specs.Word.{readPage, readBlock, wantedLeaf, leafRow, blockRow}
 

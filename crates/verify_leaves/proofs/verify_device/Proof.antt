@@ -7,8 +7,8 @@ use denote.Ref.{now}
 use Rattle.layout.specs.Size.{entries}
 use Rattle.refusal.proofs.Loop.{refuses, passes, ends}
 use Rattle.refusal.specs.Table.{first, each}
-use Rattle.verify_rows.specs.Verifying.{deviceRow, deviceRows}
 use Rattle.verify_rows.proofs.Range.{rest, rest-walk, passed}
+use Rattle.verify_rows.specs.Verifying.{deviceRow, deviceRows}
 use Rattle.verify_leaves.proofs.verify_device.Statement.{statement}
 use Rattle.verify_leaves.proofs.verify_device.Tie as tie
 
