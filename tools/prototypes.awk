@@ -3,10 +3,17 @@
 # the places that `Layout::of` reads them at.
 # awk -f tools/prototypes.awk crates/layout/src/lib.rt crates/edge/src/lib.rt crates/s2/src/lib.rt
 
-/^    pub const [A-Z_]+: usize = [0-9]+;/ {
+/^    pub const [A-Z_]+: (usize|u64) = (0x)?[0-9A-F]+;/ {
     sub(/:/, "", $3)
     sub(/;/, "", $6)
-    constant_of["Layout::" $3] = $6 + 0
+    constant_of["Layout::" $3] = value($6)
+}
+
+# The sum of a constant before it and a number.
+/^    pub const [A-Z_]+: usize = Self::[A-Z_]+ as usize \+ [0-9]+;/ {
+    sub(/:/, "", $3)
+    sub(/Self/, "Layout", $6)
+    constant_of["Layout::" $3] = constant_of[$6] + $10
 }
 
 /^    pub fn of\(x: &\[u64; Self::NUMBERS\]\)/ { numbered = 1 }
@@ -106,6 +113,15 @@ function parameter(text, pair, name, type, constant, length_of) {
 function place(line) {
     match(line, /x\[[0-9]+/)
     return substr(line, RSTART + 2, RLENGTH - 2) + 0
+}
+
+# Of a number, hexadecimal after 0x.
+function value(text, total, i) {
+    if (text !~ /^0x/)
+        return text + 0
+    for (i = 3; i <= length(text); i++)
+        total = total * 16 + index("123456789ABCDEF", substr(text, i, 1))
+    return total
 }
 
 # A count, or the one that a name stands for.
