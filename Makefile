@@ -1,13 +1,3 @@
-# make run       proves the program and what it needs, builds it and runs it
-# make test      the gate; its last line is rt's
-# make library   what board code links
-# make diff      the comparison with the Rust at scale
-# make arm       an Arm machine as judge
-# make board-arm the Rust crate for board code, on Arm
-# make bench     times beside the Rust
-# make sabotage  faults in the compiled libraries
-# make fmt       lays out every file
-
 # The folder of the Rust originals, hv-core and hv-s2.
 export HV_SRC ?= ../shared/docs/src
 
@@ -17,29 +7,41 @@ SEED ?= 1
 JUDGE = cargo run --quiet --release --offline --manifest-path oracle/Cargo.toml -p judge --
 TIMED = cargo run --quiet --profile timed --offline --manifest-path oracle/Cargo.toml -p judge --
 
-.PHONY: run test fmt header pages scenes board board-arm compare compared self-tested judge diff record bench arm arm-short sabotage library libraries judge-library
+# For make help: behind the first ## stands how long a target takes, behind the second what it does.
+.PHONY: run test help library scenes board board-arm header pages compare diff arm arm-short sabotage bench record fmt
+# Steps of these.
+.PHONY: dump library-here libraries judge judge-library compared self-tested
 
-run:
-	@mkdir -p target
-	@rt check s2dump >target/run.log 2>&1 || { cat target/run.log; exit 1; }
+# Proves the dump and what it needs, and builds it. What is proved is told on standard error, here and below: a target's own lines stand alone.
+DUMP = tools/progress.sh target/dump.log rt check s2dump >&2
+
+run: ## 4 min ## proves the program and what it needs, builds it and runs it on scene S
+	@echo "proving $$(awk -v crate=s2dump -f tools/needed.awk crates.txt) crates, s2dump and what it needs:" \
+	    "3 to 4 minutes from nothing, a second where nothing has changed" >&2
+	@$(DUMP)
 	@target/bin/s2dump <scenes/S.txt
 
-# rt ci begins by removing target/: run first, what it proved serves the rest. Its report comes last. It waits for each batch of jobs to
+# rt ci begins by removing target/: run first, what it proved serves the rest. Its verdict comes last. It waits for each batch of jobs to
 # end: with four on two cores, none idles while the longest of a batch goes on.
-test:
+test: ## 27 min ## the gate: every proof and edit from nothing, then compare, arm-short, board, scenes, header and pages; its last line is rt's
 	@rt fmt --check
-	@report=$$(mktemp) && trap 'rm -f $$report' EXIT && \
-	    { RT_JOBS=$${RT_JOBS:-4} rt ci >$$report 2>&1 || { cat $$report; exit 1; }; } && \
-	    $(MAKE) --no-print-directory --jobs=2 --output-sync compare arm-short board scenes header pages && cat $$report
+	@echo "rt ci: $$(awk -f tools/needed.awk crates.txt) crates to prove, $$(ls crates/*/must-fail/*.edit | wc -l) edits to be refused"
+	@RT_JOBS=$${RT_JOBS:-4} tools/progress.sh target/ci.log rt ci
+	@$(MAKE) --no-print-directory --jobs=2 --output-sync compare arm-short board scenes header pages
+	@tail -n 2 target/ci.log
 
-fmt:
+help: ## 0 s ## lists the targets
+	@awk -F ' *## *' '/^[a-z-]+:.* ## / { sub(/:.*/, "", $$1); printf "make %-10s %-8s %s\n", $$1, $$2, $$3 }' Makefile
+	@echo "On two cores; run and test from nothing, the others where the crates are proved: from nothing that takes up to 6 min more."
+
+fmt: ## 2 s ## lays out every file
 	@rt fmt
 	@cargo fmt --all --manifest-path oracle/Cargo.toml
 	@cargo fmt --all --manifest-path board/dervhalt-s2/Cargo.toml
 
 # The C header declares what the static library exports, and has its numbers.
 NUMBERED = crates/layout/src/lib.rt crates/update/src/lib.rt crates/p2m/src/lib.rt
-header:
+header: ## 1 s ## holds the C header to the exported calls and numbers
 	@mkdir -p target
 	@$(CC) -std=c99 -Wall -Wextra -Werror -fsyntax-only -x c include/dervhalt_s2.h
 	@awk -f tools/prototypes.awk crates/layout/src/lib.rt crates/edge/src/lib.rt crates/s2/src/lib.rt >target/exported
@@ -53,18 +55,18 @@ header:
 	@echo "header: $$(grep -c '(' target/declared) calls as they are exported, $$(wc -l <target/numbers) numbers"
 
 # What the pages say of files and counts, and of the stack.
-pages: library
+pages: library ## 30 s ## holds the pages to the files
 	@tools/pages.sh
 
 # What the dump prints of each scene.
-scenes: libraries
+scenes: dump ## 1 s ## holds what the dump prints of each scene to the Rust's
 	@for scene in scenes/*.txt; do \
 	    target/bin/s2dump <$$scene | cmp - $${scene%.txt}.out || { echo "$$scene prints something else"; exit 1; }; \
 	done
 	@echo "scenes: $$(ls scenes/*.txt | wc -l) printed as they must be"
 
 # Board code in Rust and in C over the static library: the crate's tests, and what scene S prints in both.
-board: libraries
+board: library-here ## 40 s ## board code in Rust and C: the crate's tests, and scene S
 	@$(CC) -std=c99 -Wall -Wextra -Werror -Iinclude board/example.c -Ltarget/staticlib -ls2 -o target/example
 	@target/example >target/example.out || { cat target/example.out; exit 1; }
 	@diff board/example.out target/example.out
@@ -75,11 +77,11 @@ board: libraries
 	@echo "board: $$(grep -c '^test .* ok$$' target/board.log) tests of the crate, and scene S in Rust and C"
 
 # The crate over the board's archive, on an Arm processor that QEMU emulates.
-board-arm: library
+board-arm: library ## 1 min ## the crate for board code on an emulated Arm processor; installs what it needs
 	@board/arm.sh
 
 # The port beside the Rust, and the comparison itself beside seeded faults. Without the originals, rt ci still replays their recorded answers.
-compare: compared self-tested
+compare: compared self-tested ## 2 min ## the port beside the Rust
 
 compared: judge
 	@if [ -d "$(HV_SRC)/hv-s2" ]; then \
@@ -96,44 +98,48 @@ judge: libraries
 	@[ ! -d "$(HV_SRC)/hv-s2" ] || cargo build --quiet --release --offline --manifest-path oracle/Cargo.toml -p judge
 
 # The same at scale, with other random inputs: ten million of each call or more.
-diff: libraries
+diff: libraries ## 10 min ## the same at scale; SEED=S asks other inputs
 	@$(JUDGE) diff --seed $(SEED)
 
 # Times of the port and of the Rust, each without overflow checks.
-bench: libraries
+bench: libraries ## 1.3 min ## times beside the Rust
 	@$(TIMED) bench
 
 # The Rust's answers: what the replays must print, and the dump of each scene.
-record: libraries
+record: libraries ## 1 min ## records the Rust's answers anew
 	@$(JUDGE) record crates
 	@$(JUDGE) scenes scenes
 
 # An Arm machine as judge: the library, and the manual's translation as it is defined, compiled for aarch64, on two machines that QEMU emulates.
-arm: judge-library
+arm: judge-library ## 2.5 min ## two emulated Arm machines as judge; installs QEMU
 	@arm/build.sh
-	@arm/run.sh 2000 1
+	@INSTALL=1 arm/run.sh 2000 1
 
-arm-short: judge-library
+arm-short: judge-library ## 1 min ## the same with fewer scenes, where QEMU is there; INSTALL=1 installs it
 	@arm/build.sh
 	@arm/run.sh 60 1
 
 # Every fault of the compiled libraries is noticed.
-sabotage: libraries
+sabotage: libraries ## 25 min ## faults in the compiled libraries, each of which is noticed
 	@sabotage/run.sh
 
 # What board code links: for the board, and for the machine that builds.
-library:
-	@mkdir -p target
-	@: >target/stack
-	@{ tools/module.sh s2 && tools/aarch64.sh s2 >target/stack; } >target/library.log 2>&1 || { cat target/library.log target/stack; exit 1; }
+library: library-here ## 30 s ## what board code links, for aarch64 and for this machine
+	@tools/aarch64.sh s2 >target/stack 2>target/library.log || { cat target/library.log target/stack; exit 1; }
 	@echo "library: target/aarch64/libs2.a for the board, target/staticlib/libs2.a for this machine, include/dervhalt_s2.h; $$(cat target/stack)"
 
+library-here:
+	@tools/progress.sh target/library-here.log tools/module.sh s2 >&2
+
+dump:
+	@$(DUMP)
+
 # What the comparison links beside it, and the dump.
-libraries: library
-	@{ rt check s2dump && rt staticlib probe_windows && tools/module.sh probe; } \
-	    >target/libraries.log 2>&1 || { cat target/libraries.log; exit 1; }
+libraries: library dump
+	@tools/progress.sh target/probe_windows.log rt staticlib probe_windows >&2
+	@tools/progress.sh target/probe.log tools/module.sh probe >&2
 
 # What the Arm judge alone links.
 judge-library: libraries
-	@{ tools/module.sh judge_translation && tools/aarch64.sh judge_translation; } \
-	    >target/judge-library.log 2>&1 || { cat target/judge-library.log; exit 1; }
+	@tools/progress.sh target/judge_translation.log tools/module.sh judge_translation >&2
+	@tools/aarch64.sh judge_translation >target/judge-library.log 2>&1 || { cat target/judge-library.log; exit 1; }

@@ -1,6 +1,6 @@
 #!/bin/sh
-# run.sh SCENES SEED: asks two machines that QEMU emulates, one without FEAT_XNX and one with it. Without QEMU, and where it cannot be installed
-# from Debian's packages, no machine is asked.
+# run.sh SCENES SEED: asks two machines that QEMU emulates, one without FEAT_XNX and one with it. With INSTALL=1 a missing QEMU is installed
+# from Debian's packages. Where it is not there, no machine is asked.
 set -eu
 cd "$(dirname "$0")/.."
 scenes=$1 seed=$2
@@ -9,10 +9,16 @@ qemu=qemu-system-aarch64
 install_qemu() {
     timeout 120 apt-get update && timeout 300 apt-get install -y --no-install-recommends qemu-system-arm
 }
-command -v $qemu >/dev/null || install_qemu >target/arm/install.log 2>&1 || true
 if ! command -v $qemu >/dev/null; then
-    echo "no $qemu, and it could not be installed: no Arm machine was asked"
-    exit 0
+    if [ "${INSTALL:-}" != 1 ]; then
+        echo "no QEMU here: the Arm machine was not asked; make arm installs it"
+        exit 0
+    fi
+    install_qemu >target/arm/install.log 2>&1 || true
+    command -v $qemu >/dev/null || {
+        echo "no QEMU here, and it could not be installed: the Arm machine was not asked"
+        exit 0
+    }
 fi
 $qemu --version | head -1
 

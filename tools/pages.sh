@@ -1,6 +1,6 @@
 #!/bin/sh
 # Holds what the pages say to the files: every path is there; the definitions that must be believed, the edits and the described calls are as
-# many; so much stack is taken; and the board's register has its value.
+# many; so much stack is taken; and the board's register has its value. And make help lists every target that is no step of another.
 set -eu
 cd "$(dirname "$0")/.."
 pages="README.md NOTICE docs/*.md oracle/README.md arm/README.md board/README.md"
@@ -25,6 +25,11 @@ done
 says docs/TRUST.md "$(believed $calls $demand2 $demand3 $dump)"
 
 says docs/SABOTAGE.md "There are $(ls crates/*/must-fail/*.edit | wc -l), in $(ls -d crates/*/must-fail | wc -l) crates"
+
+# What make help lists.
+for target in $(sed -n 's/^\.PHONY: run /run /p' Makefile); do
+    grep -q "^$target:.* ## .* ## " Makefile || { echo "make help does not list $target"; exit 1; }
+done
 
 # Where the library has been made.
 [ ! -s target/stack ] || says board/README.md "$(cat target/stack)"
