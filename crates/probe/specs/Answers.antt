@@ -3,12 +3,12 @@ use Prim.Native.Nat.{ℕ}
 use mathlib.Core.List.{List}
 use lib.Dec.{eqb, ltb}
 use Rattle.fields.specs.Named.{pick}
-use Rattle.probe_frames.specs.Answers.{frameAnswer}
-use Rattle.probe_granules.specs.Answers.{granulesAnswer}
-use Rattle.probe_levels.specs.Answers.{levelsAnswer}
-use Rattle.probe_regimes.specs.Answers.{regimeAnswer}
-use Rattle.probe_registers.specs.Answers.{registersAnswer}
-use Rattle.probe_words.specs.Answers.{wordsAnswer}
+use Rattle.probe.specs.Frames.{frameAnswer}
+use Rattle.probe.specs.Granules.{granulesAnswer}
+use Rattle.probe.specs.Levels.{levelsAnswer}
+use Rattle.probe.specs.Regimes.{regimeAnswer}
+use Rattle.probe.specs.Registers.{registersAnswer}
+use Rattle.probe.specs.Words.{wordsAnswer}
 
 -- eight numbers for eight; zeros where there is no such function
 abbrev pub answerOf : ℕ → List ℕ → List ℕ

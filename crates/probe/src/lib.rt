@@ -1,5 +1,12 @@
 // Every function of the lower layers by a number, with eight numbers in and eight out: what the comparison with the Rust links, and
 // what the replay of its recorded answers calls. Nothing else uses it.
+mod frames;
+mod granules;
+mod levels;
+mod regimes;
+mod registers;
+mod words;
+
 ghost use mathlib.Core.Path.{_≡_};
 ghost use Rattle.probe.specs.Answers.{answerOf};
 
@@ -8,21 +15,21 @@ pub fn answer(op: u32, x: &[u64; 8]) -> [u64; 8]
     ensures { λ r. ⌜ r ≡ answerOf op (now (x .entry)) ⌝ }
 {
     if op == 0 {
-        return probe_frames::frame(x);
+        return frames::frame(x);
     }
     if op < 3 {
-        return probe_levels::answer(op, x);
+        return levels::answer(op, x);
     }
     if op < 11 {
-        return probe_words::answer(op, x);
+        return words::answer(op, x);
     }
     if op < 15 {
-        return probe_granules::answer(op, x);
+        return granules::answer(op, x);
     }
     if op == 15 {
-        return probe_regimes::stage2_regime(x);
+        return regimes::stage2_regime(x);
     }
-    probe_registers::answer(op, x)
+    registers::answer(op, x)
 }
 
 #[no_mangle]

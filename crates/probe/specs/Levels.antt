@@ -1,0 +1,43 @@
+-- The functions 1 and 2: table levels and page types.
+use Prim.Native.Nat.{ℕ}
+use mathlib.Core.List.{List, [], _∷_}
+use lib.ListN.{getD}
+use Rattle.fields.specs.Named.{named}
+use Rattle.fields.specs.Numbers.{eight, low}
+use Rattle.p2m.specs.Frame.{kindOf, levelOfKind, typeCode, levelOfType, childType}
+use Rattle.p2m.specs.declared.ChildType.the-variants.{Child, Nothing as NoChild}
+use Rattle.p2m.specs.declared.ChildType.{ChildType}
+use Rattle.p2m.specs.declared.PageType.the-variants.{Writable, PageTable}
+use Rattle.p2m.specs.declared.PtLevel.the-variants.{L1, L2, L3, L4}
+use Rattle.p2m.specs.declared.TableLevel.the-variants.{Level, Nothing as NoLevel}
+use Rattle.p2m.specs.declared.TableLevel.{TableLevel}
+use Rattle.probe.specs.declared.levels.TypeNamed.the-variants.{Named as IsType, Nothing as NoType}
+use Rattle.probe.specs.declared.levels.TypeNamed.{TypeNamed}
+
+-- 1: a kind's level, and the type of what its interior entries reference
+abbrev pub childNumber : ChildType → ℕ
+childNumber (Child t) = typeCode t
+childNumber NoChild = 0
+
+abbrev pub tableLevelNumbers : TableLevel → List ℕ
+tableLevelNumbers (Level l) = eight (kindOf l ∷ childNumber (childType l) ∷ [])
+tableLevelNumbers NoLevel = eight []
+
+-- 2: a page type's level
+abbrev pub typeNamed : ℕ → TypeNamed
+typeNamed = named typeCode (Writable ∷ PageTable L1 ∷ PageTable L2 ∷ PageTable L3 ∷ PageTable L4 ∷ []) IsType NoType
+
+abbrev pub levelNumber : TableLevel → ℕ
+levelNumber (Level l) = kindOf l
+levelNumber NoLevel = 0
+
+abbrev pub typeNumbers : TypeNamed → List ℕ
+typeNumbers (IsType t) = eight (levelNumber (levelOfType t) ∷ [])
+typeNumbers NoType = eight []
+
+-- the answer of function op at the numbers x
+unfoldable pub levelsAnswer : ℕ → List ℕ → List ℕ
+levelsAnswer op x =
+    named (λ (e : ℕ × List ℕ). e .0)
+    ((1, tableLevelNumbers (levelOfKind (low (getD x 0 0)))) ∷ (2, typeNumbers (typeNamed (low (getD x 0 0)))) ∷ [])
+    (λ e. e .1) (eight []) op

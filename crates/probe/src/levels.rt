@@ -1,0 +1,82 @@
+// Table levels and page types by numbers.
+use p2m::ChildType;
+use p2m::PageType;
+use p2m::PtLevel;
+use p2m::TableLevel;
+ghost use mathlib.Core.Path.{_≡_};
+ghost use Rattle.p2m.specs.Frame.{levelOfKind};
+ghost use Rattle.probe.specs.Levels.{childNumber, tableLevelNumbers, typeNamed, levelNumber, typeNumbers, levelsAnswer};
+
+// A page type by its code: 1 is writable, a page table has its kind.
+enum TypeNamed {
+    Named(PageType),
+    Nothing,
+}
+
+pub fn answer(op: u32, x: &[u64; 8]) -> [u64; 8]
+    ensures { λ r. ⌜ r ≡ levelsAnswer op (now (x .entry)) ⌝ }
+{
+    match op {
+        1 => level((x[0] % 0x1_0000_0000) as u32),
+        2 => page_type((x[0] % 0x1_0000_0000) as u32),
+        _ => [0; 8],
+    }
+}
+
+fn level(kind: u32) -> [u64; 8]
+    ensures { λ r. ⌜ r ≡ tableLevelNumbers (levelOfKind kind) ⌝ }
+{
+    let TableLevel::Level(l) = p2m::level_of_kind(kind) else {
+        return [0; 8];
+    };
+    [
+        l.kind() as u64,
+        child_number(l.interior_child_type()),
+        0,
+        0,
+        0,
+        0,
+        0,
+        0,
+    ]
+}
+
+fn page_type(code: u32) -> [u64; 8]
+    ensures { λ r. ⌜ r ≡ typeNumbers (typeNamed code) ⌝ }
+{
+    let TypeNamed::Named(t) = type_named(code) else {
+        return [0; 8];
+    };
+    [level_number(t.level()), 0, 0, 0, 0, 0, 0, 0]
+}
+
+fn type_named(code: u32) -> TypeNamed
+    ensures { λ r. ⌜ r ≡ typeNamed code ⌝ }
+{
+    match code {
+        1 => TypeNamed::Named(PageType::Writable),
+        2 => TypeNamed::Named(PageType::PageTable(PtLevel::L1)),
+        3 => TypeNamed::Named(PageType::PageTable(PtLevel::L2)),
+        4 => TypeNamed::Named(PageType::PageTable(PtLevel::L3)),
+        5 => TypeNamed::Named(PageType::PageTable(PtLevel::L4)),
+        _ => TypeNamed::Nothing,
+    }
+}
+
+fn level_number(l: TableLevel) -> u64
+    ensures { λ r. ⌜ r ≡ levelNumber l ⌝ }
+{
+    match l {
+        TableLevel::Level(l) => l.kind() as u64,
+        TableLevel::Nothing => 0,
+    }
+}
+
+fn child_number(c: ChildType) -> u64
+    ensures { λ r. ⌜ r ≡ childNumber c ⌝ }
+{
+    match c {
+        ChildType::Child(t) => t.code() as u64,
+        ChildType::Nothing => 0,
+    }
+}
