@@ -1,17 +1,16 @@
 -- The functions 11 to 14: granules, start levels, output sizes and widths of VMIDs.
 use Prim.Native.Nat.{ℕ}
 use mathlib.Core.List.{List, [], _∷_}
-use lib.ListN.{getD}
 use Rattle.fields.specs.Named.{named}
 use Rattle.fields.specs.Numbers.{eight}
-use Rattle.granule.specs.Granule.{pageBits, levelBits, tg0, granuleNamed}
-use Rattle.granule.specs.StartLevel.{number, sl0, levelNamed, span}
+use Rattle.granule.specs.Granule.{pageBits, levelBits, tg0}
+use Rattle.granule.specs.StartLevel.{number, sl0, span}
 use Rattle.granule.specs.declared.Granule.the-variants.{K4, K16, K64}
 use Rattle.granule.specs.declared.GranuleNamed.the-variants.{Granule as IsGranule, Reserved as NoGranule}
 use Rattle.granule.specs.declared.GranuleNamed.{GranuleNamed}
 use Rattle.granule.specs.declared.LevelNamed.the-variants.{Level, Reserved as NoLevel}
 use Rattle.granule.specs.declared.LevelNamed.{LevelNamed}
-use Rattle.regime.specs.Codes.{ps, sizeNamed, vs, vmids}
+use Rattle.regime.specs.Codes.{ps, vs, vmids}
 use Rattle.regime.specs.declared.SizeNamed.the-variants.{Size, Reserved as NoSize}
 use Rattle.regime.specs.declared.SizeNamed.{SizeNamed}
 use Rattle.regime.specs.declared.VmidBits.the-variants.{B8, B16}
@@ -40,14 +39,3 @@ widthNamed = named vs (B8 ∷ B16 ∷ []) Width NoWidth
 abbrev pub widthNumbers : WidthNamed → List ℕ
 widthNumbers (Width b) = eight (1 ∷ vs b ∷ vmids b ∷ [])
 widthNumbers NoWidth = eight []
-
--- the answer of function op at the numbers x
-unfoldable pub granulesAnswer : ℕ → List ℕ → List ℕ
-granulesAnswer op x =
-    named (λ (e : ℕ × List ℕ). e .0)
-    ((11, granuleNumbers (granuleNamed (getD x 0 0)))
-    ∷ (12, startLevelNumbers (levelNamed (getD x 0 0)))
-    ∷ (13, sizeNumbers (sizeNamed (getD x 0 0)))
-    ∷ (14, widthNumbers (widthNamed (getD x 0 0)))
-    ∷ [])
-    (λ e. e .1) (eight []) op

@@ -1,10 +1,9 @@
 -- The functions 1 and 2: table levels and page types.
 use Prim.Native.Nat.{ℕ}
 use mathlib.Core.List.{List, [], _∷_}
-use lib.ListN.{getD}
 use Rattle.fields.specs.Named.{named}
-use Rattle.fields.specs.Numbers.{eight, low}
-use Rattle.p2m.specs.Frame.{kindOf, levelOfKind, typeCode, levelOfType, childType}
+use Rattle.fields.specs.Numbers.{eight}
+use Rattle.p2m.specs.Frame.{kindOf, typeCode, levelOfType, childType}
 use Rattle.p2m.specs.declared.ChildType.the-variants.{Child, Nothing as NoChild}
 use Rattle.p2m.specs.declared.ChildType.{ChildType}
 use Rattle.p2m.specs.declared.PageType.the-variants.{Writable, PageTable}
@@ -34,10 +33,3 @@ levelNumber NoLevel = 0
 abbrev pub typeNumbers : TypeNamed → List ℕ
 typeNumbers (IsType t) = eight (levelNumber (levelOfType t) ∷ [])
 typeNumbers NoType = eight []
-
--- the answer of function op at the numbers x
-unfoldable pub levelsAnswer : ℕ → List ℕ → List ℕ
-levelsAnswer op x =
-    named (λ (e : ℕ × List ℕ). e .0)
-    ((1, tableLevelNumbers (levelOfKind (low (getD x 0 0)))) ∷ (2, typeNumbers (typeNamed (low (getD x 0 0)))) ∷ [])
-    (λ e. e .1) (eight []) op

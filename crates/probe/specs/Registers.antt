@@ -1,17 +1,14 @@
--- The decoding of VTCR_EL2, and VTTBR_EL2, by their numbers.
+-- The functions 16 to 18: the decoding of VTCR_EL2, and VTTBR_EL2.
 use Prim.Native.Nat.{ℕ, _+_}
 use mathlib.Core.List.{List, [], _∷_}
-use lib.ListN.{getD}
-use Rattle.fields.specs.Named.{named}
 use Rattle.fields.specs.Numbers.{eight}
 use Rattle.granule.specs.Granule.{tg0}
 use Rattle.granule.specs.StartLevel.{sl0}
 use Rattle.regime.specs.Codes.{ps, vs}
 use Rattle.regime.specs.declared.VmidBits.the-variants.{B8, B16}
-use Rattle.vtcr.specs.Vtcr.{decodedVtcr}
 use Rattle.vtcr.specs.declared.DecodedVtcr.the-variants.{Regime, Nothing}
 use Rattle.vtcr.specs.declared.DecodedVtcr.{DecodedVtcr}
-use Rattle.vttbr.specs.Vttbr.{vttbrOf, baddr, vmidOf}
+use Rattle.vttbr.specs.Vttbr.{baddr, vmidOf}
 
 -- 16: one more than VS, so that it is not nothing, then the regime's fields in the struct's order
 abbrev pub decodedNumbers : DecodedVtcr → List ℕ
@@ -30,13 +27,3 @@ decodedNumbers Nothing = eight []
 -- 18: the base, and the VMID in both widths
 abbrev pub partNumbers : ℕ → List ℕ
 partNumbers v = eight (baddr v ∷ vmidOf v B8 ∷ vmidOf v B16 ∷ [])
-
--- the answer of function op at the numbers x; 17 is VTTBR_EL2 of a base and a VMID
-unfoldable pub registersAnswer : ℕ → List ℕ → List ℕ
-registersAnswer op x =
-    named (λ (e : ℕ × List ℕ). e .0)
-    ((16, decodedNumbers (decodedVtcr (getD x 0 0)))
-    ∷ (17, eight (vttbrOf (getD x 0 0) (getD x 1 0) ∷ []))
-    ∷ (18, partNumbers (getD x 0 0))
-    ∷ [])
-    (λ e. e .1) (eight []) op

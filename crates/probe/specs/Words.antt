@@ -1,10 +1,7 @@
--- The functions of perm, memtype and desc by their numbers.
+-- The functions 3 to 10: those of perm, memtype, desc and decode.
 use Prim.Native.Nat.{ℕ, _+_, _*_, _^_}
-use mathlib.Core.Bool.{Bool, true, false, not}
+use mathlib.Core.Bool.{Bool, true, false}
 use mathlib.Core.List.{List, [], _∷_}
-use lib.Dec.{eqb}
-use lib.ListN.{getD}
-use Rattle.decode.specs.Decoded.{decodedPage, decodedBlock, decodedTable, decodedDevice}
 use Rattle.decode.specs.declared.DecodedBlock.the-variants.{Device, Nothing as NoBlock}
 use Rattle.decode.specs.declared.DecodedBlock.{DecodedBlock}
 use Rattle.decode.specs.declared.DecodedLeaf.the-variants.{Leaf, Nothing as NoLeaf}
@@ -90,18 +87,3 @@ tableNumbers NoTable = eight []
 abbrev pub deviceNumbers : DecodedBlock → List ℕ
 deviceNumbers (Device d) = eight (1 ∷ d .pa ∷ bit (d .xn) ∷ [])
 deviceNumbers NoBlock = eight []
-
--- the answer of function op at the numbers x
-unfoldable pub wordsAnswer : ℕ → List ℕ → List ℕ
-wordsAnswer op x =
-    named (λ (e : ℕ × List ℕ). e .0)
-    ((3, permNumbers (permNamed (getD x 0 0)) (not (eqb (getD x 1 0) 0)))
-    ∷ (4, memoryNumbers (getD x 0 0))
-    ∷ (5, constantNumbers)
-    ∷ (6, wordNumbers)
-    ∷ (7, leafNumbers (decodedPage (getD x 0 0)))
-    ∷ (8, leafNumbers (decodedBlock (getD x 0 0)))
-    ∷ (9, tableNumbers (decodedTable (getD x 0 0)))
-    ∷ (10, deviceNumbers (decodedDevice (getD x 0 0)))
-    ∷ [])
-    (λ e. e .1) (eight []) op

@@ -10,7 +10,7 @@ ghost use mathlib.Core.Path.{_≡_};
 ghost use Rattle.granule.specs.Granule.{granuleNamed};
 ghost use Rattle.granule.specs.StartLevel.{levelNamed};
 ghost use Rattle.regime.specs.Codes.{sizeNamed};
-ghost use Rattle.probe.specs.Granules.{granuleNumbers, startLevelNumbers, sizeNumbers, widthNamed, widthNumbers, granulesAnswer};
+ghost use Rattle.probe.specs.Granules.{granuleNumbers, startLevelNumbers, sizeNumbers, widthNamed, widthNumbers};
 
 // The width of a VMID by its code.
 pub enum WidthNamed {
@@ -18,19 +18,7 @@ pub enum WidthNamed {
     Nothing,
 }
 
-pub fn answer(op: u32, x: &[u64; 8]) -> [u64; 8]
-    ensures { λ r. ⌜ r ≡ granulesAnswer op (now (x .entry)) ⌝ }
-{
-    match op {
-        11 => granule(x[0]),
-        12 => start_level(x[0]),
-        13 => pa_size(x[0]),
-        14 => vmid_bits(x[0]),
-        _ => [0; 8],
-    }
-}
-
-fn granule(tg0: u64) -> [u64; 8]
+pub fn granule(tg0: u64) -> [u64; 8]
     ensures { λ r. ⌜ r ≡ granuleNumbers (granuleNamed tg0) ⌝ }
 {
     let GranuleNamed::Granule(g) = Granule::from_tg0(tg0) else {
@@ -48,7 +36,7 @@ fn granule(tg0: u64) -> [u64; 8]
     ]
 }
 
-fn start_level(sl0: u64) -> [u64; 8]
+pub fn start_level(sl0: u64) -> [u64; 8]
     ensures { λ r. ⌜ r ≡ startLevelNumbers (levelNamed sl0) ⌝ }
 {
     let LevelNamed::Level(l) = StartLevel::from_sl0(sl0) else {
@@ -66,7 +54,7 @@ fn start_level(sl0: u64) -> [u64; 8]
     ]
 }
 
-fn pa_size(ps: u64) -> [u64; 8]
+pub fn pa_size(ps: u64) -> [u64; 8]
     ensures { λ r. ⌜ r ≡ sizeNumbers (sizeNamed ps) ⌝ }
 {
     let SizeNamed::Size(s) = PaSize::from_ps(ps) else {
@@ -75,7 +63,7 @@ fn pa_size(ps: u64) -> [u64; 8]
     [1, s.ps(), 0, 0, 0, 0, 0, 0]
 }
 
-fn vmid_bits(vs: u64) -> [u64; 8]
+pub fn vmid_bits(vs: u64) -> [u64; 8]
     ensures { λ r. ⌜ r ≡ widthNumbers (widthNamed vs) ⌝ }
 {
     let WidthNamed::Width(b) = width_named(vs) else {

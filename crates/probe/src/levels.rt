@@ -5,7 +5,7 @@ use p2m::PtLevel;
 use p2m::TableLevel;
 ghost use mathlib.Core.Path.{_≡_};
 ghost use Rattle.p2m.specs.Frame.{levelOfKind};
-ghost use Rattle.probe.specs.Levels.{childNumber, tableLevelNumbers, typeNamed, levelNumber, typeNumbers, levelsAnswer};
+ghost use Rattle.probe.specs.Levels.{childNumber, tableLevelNumbers, typeNamed, levelNumber, typeNumbers};
 
 // A page type by its code: 1 is writable, a page table has its kind.
 enum TypeNamed {
@@ -13,17 +13,7 @@ enum TypeNamed {
     Nothing,
 }
 
-pub fn answer(op: u32, x: &[u64; 8]) -> [u64; 8]
-    ensures { λ r. ⌜ r ≡ levelsAnswer op (now (x .entry)) ⌝ }
-{
-    match op {
-        1 => level((x[0] % 0x1_0000_0000) as u32),
-        2 => page_type((x[0] % 0x1_0000_0000) as u32),
-        _ => [0; 8],
-    }
-}
-
-fn level(kind: u32) -> [u64; 8]
+pub fn level(kind: u32) -> [u64; 8]
     ensures { λ r. ⌜ r ≡ tableLevelNumbers (levelOfKind kind) ⌝ }
 {
     let TableLevel::Level(l) = p2m::level_of_kind(kind) else {
@@ -41,7 +31,7 @@ fn level(kind: u32) -> [u64; 8]
     ]
 }
 
-fn page_type(code: u32) -> [u64; 8]
+pub fn page_type(code: u32) -> [u64; 8]
     ensures { λ r. ⌜ r ≡ typeNumbers (typeNamed code) ⌝ }
 {
     let TypeNamed::Named(t) = type_named(code) else {

@@ -14,22 +14,28 @@ ghost use Rattle.probe.specs.Answers.{answerOf};
 pub fn answer(op: u32, x: &[u64; 8]) -> [u64; 8]
     ensures { λ r. ⌜ r ≡ answerOf op (now (x .entry)) ⌝ }
 {
-    if op == 0 {
-        return frames::frame(x);
+    match op {
+        0 => frames::frame(x),
+        1 => levels::level((x[0] % 0x1_0000_0000) as u32),
+        2 => levels::page_type((x[0] % 0x1_0000_0000) as u32),
+        3 => words::permission(x[0], x[1] != 0),
+        4 => words::memory_type(x[0]),
+        5 => words::constants(),
+        6 => words::words(),
+        7 => words::leaf(decode::decode_page(x[0])),
+        8 => words::leaf(decode::decode_block(x[0])),
+        9 => words::table(decode::decode_table(x[0])),
+        10 => words::device(decode::decode_device_block(x[0])),
+        11 => granules::granule(x[0]),
+        12 => granules::start_level(x[0]),
+        13 => granules::pa_size(x[0]),
+        14 => granules::vmid_bits(x[0]),
+        15 => regimes::stage2_regime(x),
+        16 => registers::decoded(vtcr::decode_vtcr_el2(x[0])),
+        17 => [vttbr::vttbr(x[0], x[1]), 0, 0, 0, 0, 0, 0, 0],
+        18 => registers::vttbr_parts(x[0]),
+        _ => [0; 8],
     }
-    if op < 3 {
-        return levels::answer(op, x);
-    }
-    if op < 11 {
-        return words::answer(op, x);
-    }
-    if op < 15 {
-        return granules::answer(op, x);
-    }
-    if op == 15 {
-        return regimes::stage2_regime(x);
-    }
-    registers::answer(op, x)
 }
 
 #[no_mangle]

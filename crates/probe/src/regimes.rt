@@ -1,10 +1,10 @@
 // regime and the encoding of VTCR_EL2 by numbers: each parameter by the code of its field.
+use crate::granules;
+use crate::granules::WidthNamed;
 use granule::Granule;
 use granule::GranuleNamed;
 use granule::LevelNamed;
 use granule::StartLevel;
-use crate::granules;
-use crate::granules::WidthNamed;
 use regime::Determined;
 use regime::PaSize;
 use regime::SizeNamed;

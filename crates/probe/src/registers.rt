@@ -5,20 +5,9 @@ use vtcr::DecodedVtcr;
 ghost use Prim.Native.Nat.{_+_};
 ghost use mathlib.Core.Path.{_≡_};
 ghost use Rattle.regime.specs.Codes.{vs};
-ghost use Rattle.probe.specs.Registers.{decodedNumbers, partNumbers, registersAnswer};
+ghost use Rattle.probe.specs.Registers.{decodedNumbers, partNumbers};
 
-pub fn answer(op: u32, x: &[u64; 8]) -> [u64; 8]
-    ensures { λ r. ⌜ r ≡ registersAnswer op (now (x .entry)) ⌝ }
-{
-    match op {
-        16 => decoded(vtcr::decode_vtcr_el2(x[0])),
-        17 => [vttbr::vttbr(x[0], x[1]), 0, 0, 0, 0, 0, 0, 0],
-        18 => vttbr_parts(x[0]),
-        _ => [0; 8],
-    }
-}
-
-fn decoded(d: DecodedVtcr) -> [u64; 8]
+pub fn decoded(d: DecodedVtcr) -> [u64; 8]
     ensures { λ r. ⌜ r ≡ decodedNumbers d ⌝ }
 {
     match d {
@@ -55,7 +44,7 @@ fn width_number(b: VmidBits) -> u64
     }
 }
 
-fn vttbr_parts(v: u64) -> [u64; 8]
+pub fn vttbr_parts(v: u64) -> [u64; 8]
     ensures { λ r. ⌜ r ≡ partNumbers v ⌝ }
 {
     [

@@ -1,11 +1,11 @@
-// perm, memtype and desc by numbers.
+// perm, memtype, desc and decode by numbers.
 use decode::DecodedBlock;
 use decode::DecodedLeaf;
 use decode::DecodedTable;
 use memtype::MemoryType;
 use perm::Perm;
 ghost use mathlib.Core.Path.{_≡_};
-ghost use Rattle.probe.specs.Words.{permNamed, permNumbers, memoryNumbers, encodingNumbers, constantNumbers, wordNumbers, leafNumbers, tableNumbers, deviceNumbers, wordsAnswer};
+ghost use Rattle.probe.specs.Words.{permNamed, permNumbers, memoryNumbers, encodingNumbers, constantNumbers, wordNumbers, leafNumbers, tableNumbers, deviceNumbers};
 
 // A permission by its code.
 enum PermNamed {
@@ -13,23 +13,7 @@ enum PermNamed {
     Nothing,
 }
 
-pub fn answer(op: u32, x: &[u64; 8]) -> [u64; 8]
-    ensures { λ r. ⌜ r ≡ wordsAnswer op (now (x .entry)) ⌝ }
-{
-    match op {
-        3 => permission(x[0], x[1] != 0),
-        4 => memory_type(x[0]),
-        5 => constants(),
-        6 => words(),
-        7 => leaf(decode::decode_page(x[0])),
-        8 => leaf(decode::decode_block(x[0])),
-        9 => table(decode::decode_table(x[0])),
-        10 => device(decode::decode_device_block(x[0])),
-        _ => [0; 8],
-    }
-}
-
-fn permission(code: u64, wx_exempt: bool) -> [u64; 8]
+pub fn permission(code: u64, wx_exempt: bool) -> [u64; 8]
     ensures { λ r. ⌜ r ≡ permNumbers (permNamed code) «wx_exempt» ⌝ }
 {
     let PermNamed::Perm(p) = perm_named(code) else {
@@ -60,7 +44,7 @@ fn perm_named(code: u64) -> PermNamed
     }
 }
 
-fn memory_type(code: u64) -> [u64; 8]
+pub fn memory_type(code: u64) -> [u64; 8]
     ensures { λ r. ⌜ r ≡ memoryNumbers code ⌝ }
 {
     match code {
@@ -86,7 +70,7 @@ fn encodings(t: MemoryType) -> [u64; 8]
     ]
 }
 
-fn constants() -> [u64; 8]
+pub fn constants() -> [u64; 8]
     ensures { λ r. ⌜ r ≡ constantNumbers ⌝ }
 {
     [
@@ -101,7 +85,7 @@ fn constants() -> [u64; 8]
     ]
 }
 
-fn words() -> [u64; 8]
+pub fn words() -> [u64; 8]
     ensures { λ r. ⌜ r ≡ wordNumbers ⌝ }
 {
     [
@@ -116,7 +100,7 @@ fn words() -> [u64; 8]
     ]
 }
 
-fn leaf(l: DecodedLeaf) -> [u64; 8]
+pub fn leaf(l: DecodedLeaf) -> [u64; 8]
     ensures { λ r. ⌜ r ≡ leafNumbers l ⌝ }
 {
     let DecodedLeaf::Leaf(d) = l else {
@@ -126,7 +110,7 @@ fn leaf(l: DecodedLeaf) -> [u64; 8]
     [1, d.pa, perm.code() as u64, d.xn as u64, 0, 0, 0, 0]
 }
 
-fn table(t: DecodedTable) -> [u64; 8]
+pub fn table(t: DecodedTable) -> [u64; 8]
     ensures { λ r. ⌜ r ≡ tableNumbers t ⌝ }
 {
     let DecodedTable::At(pa) = t else {
@@ -135,7 +119,7 @@ fn table(t: DecodedTable) -> [u64; 8]
     [1, pa, 0, 0, 0, 0, 0, 0]
 }
 
-fn device(b: DecodedBlock) -> [u64; 8]
+pub fn device(b: DecodedBlock) -> [u64; 8]
     ensures { λ r. ⌜ r ≡ deviceNumbers b ⌝ }
 {
     let DecodedBlock::Device(d) = b else {
