@@ -1,2 +1,3 @@
+pub mod FieldsBack
 pub mod RoundTrip
 pub mod Valid

@@ -20,11 +20,11 @@ use Rattle.regime.specs.declared.SizeNamed.the-variants.{Size}
 use Rattle.regime.specs.declared.Stage2Regime.{Stage2Regime}
 use Rattle.regime.specs.declared.VmidBits.the-variants.{B8, B16}
 use Rattle.regime.specs.declared.VmidBits.{VmidBits}
-use Rattle.vtcr_fields.proofs.FieldsBack.{fields-back}
-use Rattle.vtcr_fields.specs.Fields.{joined}
+use Rattle.vtcr.specs.Fields.{vtcrJoined}
 use Rattle.vtcr.specs.RoundTrip.{VtcrRoundTrip, BaleenValue}
 use Rattle.vtcr.specs.Vtcr.{fieldsFor, regimeWith, regimeNamed, decodedFields}
 use Rattle.vtcr.specs.declared.DecodedVtcr.the-variants.{Regime}
+use Rattle.vtcr.proofs.FieldsBack.{fields-back}
 use Rattle.vtcr.proofs.Valid.{facts, in-range}
 
 -- the code of a parameter names it
@@ -65,7 +65,7 @@ named-back r b e =
 pub vtcr-round-trip : VtcrRoundTrip
 vtcr-round-trip r b e =
     let f = fieldsFor r b in
-    (joined f, rw e, ap decodedFields (fields-back f (in-range r b (facts r e))) ∙ named-back r b e)
+    (vtcrJoined f, rw e, ap decodedFields (fields-back f (in-range r b (facts r e))) ∙ named-back r b e)
 
 pub baleen-value : BaleenValue
 unfolding validRegime inputFits span below

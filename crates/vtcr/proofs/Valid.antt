@@ -10,7 +10,7 @@ use Rattle.regime.proofs.Bounds.{ps-range, vs-range}
 use Rattle.regime.specs.Regime.{inputFits, validRegime}
 use Rattle.regime.specs.declared.Stage2Regime.{Stage2Regime}
 use Rattle.regime.specs.declared.VmidBits.{VmidBits}
-use Rattle.vtcr_fields.specs.Fields.{InRange}
+use Rattle.vtcr.specs.Fields.{InRange}
 use Rattle.vtcr.specs.Vtcr.{fieldsFor}
 
 pub record Valid (r : Stage2Regime) : Type 0 where

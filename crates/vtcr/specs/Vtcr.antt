@@ -17,12 +17,12 @@ use Rattle.regime.specs.declared.SizeNamed.the-variants.{Size, Reserved as NoSi
 use Rattle.regime.specs.declared.SizeNamed.{SizeNamed}
 use Rattle.regime.specs.declared.Stage2Regime.{Stage2Regime}
 use Rattle.regime.specs.declared.VmidBits.{VmidBits}
-use Rattle.vtcr_fields.specs.Fields.{fieldsOf, joined}
-use Rattle.vtcr_fields.specs.declared.VtcrFields.{VtcrFields}
+use Rattle.vtcr.specs.Fields.{vtcrFieldsOf, vtcrJoined}
 use Rattle.vtcr.specs.declared.DecodedVtcr.the-variants.{Regime, Nothing}
 use Rattle.vtcr.specs.declared.DecodedVtcr.{DecodedVtcr}
 use Rattle.vtcr.specs.declared.Vtcr.the-variants.{Value, Invalid}
 use Rattle.vtcr.specs.declared.Vtcr.{Vtcr}
+use Rattle.vtcr.specs.declared.VtcrFields.{VtcrFields}
 
 -- the fields of a regime and a width: RES1 is one, and DS, HA and HD are zero
 abbrev pub fieldsFor : Stage2Regime → VmidBits → VtcrFields
@@ -41,7 +41,7 @@ fieldsFor r b =
     }
 
 abbrev pub vtcrOf : Stage2Regime → VmidBits → Vtcr
-vtcrOf r b = pick (validRegime r) (Value (joined (fieldsFor r b))) Invalid
+vtcrOf r b = pick (validRegime r) (Value (vtcrJoined (fieldsFor r b))) Invalid
 
 -- the regime of these fields, by the granule, level and size that they name
 abbrev pub regimeWith : VtcrFields → Granule → StartLevel → PaSize → Stage2Regime
@@ -72,4 +72,4 @@ abbrev pub decodedFields : VtcrFields → DecodedVtcr
 decodedFields f = pick (eqb (f .res1) 1) (pick (eqb (f .ds) 0) (regimeNamed f) Nothing) Nothing
 
 abbrev pub decodedVtcr : ℕ → DecodedVtcr
-decodedVtcr v = decodedFields (fieldsOf v)
+decodedVtcr v = decodedFields (vtcrFieldsOf v)

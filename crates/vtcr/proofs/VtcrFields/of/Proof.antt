@@ -3,8 +3,8 @@ use Prim.Native.Nat.{_%_}
 use mathlib.Core.Path.{_≡_}
 use native.Mathlib.Omega.{arith}
 use Rattle.fields.specs.Bits.{bits}
-use Rattle.vtcr_fields.proofs.VtcrFields.of.Statement.{statement}
-use Rattle.vtcr_fields.proofs.VtcrFields.of.Tie as tie
+use Rattle.vtcr.proofs.VtcrFields.of.Statement.{statement}
+use Rattle.vtcr.proofs.VtcrFields.of.Tie as tie
 
 returns : tie.Need-returns
 returns c =

@@ -2,11 +2,11 @@
 use Prim.Native.Nat.{ℕ, _+_, _*_, _%_, _^_, _<_}
 use mathlib.Core.Path.{_≡_}
 use Rattle.fields.specs.Bits.{bits}
-use Rattle.vtcr_fields.specs.declared.VtcrFields.{VtcrFields}
+use Rattle.vtcr.specs.declared.VtcrFields.{VtcrFields}
 
 -- the fields of a value: bit 31 is RES1, and DS selects another descriptor format
-abbrev pub fieldsOf : ℕ → VtcrFields
-fieldsOf v =
+abbrev pub vtcrFieldsOf : ℕ → VtcrFields
+vtcrFieldsOf v =
     record {
       t0sz = bits 5 0 v;
       sl0 = bits 7 6 v;
@@ -21,8 +21,8 @@ fieldsOf v =
     }
 
 -- the value that has these fields, each cut to its place, and no other bit
-abbrev pub joined : VtcrFields → ℕ
-joined f =
+abbrev pub vtcrJoined : VtcrFields → ℕ
+vtcrJoined f =
     f .t0sz % 2 ^ 6
     + f .sl0 % 2 ^ 2 * 2 ^ 6
     + f .irgn0 % 2 ^ 2 * 2 ^ 8
@@ -49,4 +49,4 @@ pub record InRange (f : VtcrFields) : Type 0 where
 
 -- fields that fit come back
 abbrev pub FieldsBack : Type 0
-FieldsBack = (f : VtcrFields) → InRange f → fieldsOf (joined f) ≡ f
+FieldsBack = (f : VtcrFields) → InRange f → vtcrFieldsOf (vtcrJoined f) ≡ f
