@@ -2,7 +2,7 @@
 use Prim.Native.Nat.{ℕ, zero, suc, _+_, _-_, _≤_, _<_}
 use mathlib.Core.Bool.{Bool, true, false}
 use mathlib.Core.List.{List, [], _++_, flatMap}
-use mathlib.Core.Path.{_≡_, refl}
+use mathlib.Core.Path.{_≡_, refl, ap}
 use native.Mathlib.Numerals.{add-one}
 use native.Mathlib.Omega.{arith}
 use lib.Dec.{eqb}
@@ -44,6 +44,11 @@ pub passed :
 passed f n i r low high none =
     let e : i + (r - i) ≡ r = omega arith in
     rw e at (ahead f n (r - i) i (omega arith) (λ k lt le. none k (omega (arith, lt)) le))
+
+pub passed-over :
+    (f : ℕ → List Row) (n r : ℕ) →
+    (r ≤ n) × ((k : ℕ) → k < r → f k ≡ []) → first (each f (rest n 0)) ≡ first (each f (rest n r))
+passed-over f n r p = ap first (passed f n 0 r (omega arith) (p .0) (λ k lt le. p .1 k lt))
 
 -- where no number has a row there is none
 

@@ -1,13 +1,12 @@
 -- `verify_base` meets its contract: the first row is that of the frames from m on.
 use Prim.Native.Nat.{_-_}
-use mathlib.Core.Path.{_≡_, ap}
-use native.Mathlib.Omega.{arith}
+use mathlib.Core.Path.{_≡_}
 use borrow.Author.Needs.{needs}
 use denote.Ref.{now}
 use Rattle.layout.specs.Size.{entries}
 use Rattle.refusal.proofs.Loop.{refuses, passes, ends}
 use Rattle.refusal.specs.Table.{first, each}
-use Rattle.verify_rows.proofs.Range.{rest, rest-walk, passed}
+use Rattle.verify_rows.proofs.Range.{rest, rest-walk, passed-over}
 use Rattle.verify_rows.specs.Verifying.{indices, baseRow}
 use Rattle.verify_leaves.proofs.verify_base.Statement.{statement}
 use Rattle.verify_leaves.proofs.verify_base.Tie as tie
@@ -24,10 +23,7 @@ past-pages-requires c κs = search needs
 loop-holds : tie.Need-loop-holds Inv-loop μ-loop
 loop-holds c =
     let a = c .before .before .before .args in
-    let past = c .past-pages .ensures in
-    ap first
-    (passed (baseRow (now (a .arena)) (now (a .base)) (a .pa)) entries 0 (c .past-pages .result) (omega arith) (past .0)
-    (λ k lt le. past .1 k lt))
+    passed-over (baseRow (now (a .arena)) (now (a .base)) (a .pa)) entries (c .past-pages .result) (c .past-pages .ensures)
 
 base-frame-requires : tie.Need-base-frame-requires Inv-loop μ-loop
 base-frame-requires c κs = search needs

@@ -1,13 +1,12 @@
 -- `verify_device` meets its contract: the first row is that of the slots from j on.
 use Prim.Native.Nat.{_-_}
-use mathlib.Core.Path.{_≡_, ap}
-use native.Mathlib.Omega.{arith}
+use mathlib.Core.Path.{_≡_}
 use borrow.Author.Needs.{needs}
 use denote.Ref.{now}
 use Rattle.layout.specs.Size.{entries}
 use Rattle.refusal.proofs.Loop.{refuses, passes, ends}
 use Rattle.refusal.specs.Table.{first, each}
-use Rattle.verify_rows.proofs.Range.{rest, rest-walk, passed}
+use Rattle.verify_rows.proofs.Range.{rest, rest-walk, passed-over}
 use Rattle.verify_rows.specs.Verifying.{deviceRow, deviceRows}
 use Rattle.verify_leaves.proofs.verify_device.Statement.{statement}
 use Rattle.verify_leaves.proofs.verify_device.Tie as tie
@@ -24,10 +23,7 @@ past-devices-requires c κs = search needs
 loop-holds : tie.Need-loop-holds Inv-loop μ-loop
 loop-holds c =
     let a = c .before .before .args in
-    let past = c .past-devices .ensures in
-    ap first
-    (passed (deviceRow (now (a .arena)) (a .table) (a .w)) entries 0 (c .past-devices .result) (omega arith) (past .0)
-    (λ k lt le. past .1 k lt))
+    passed-over (deviceRow (now (a .arena)) (a .table) (a .w)) entries (c .past-devices .result) (c .past-devices .ensures)
 
 device-slot-requires : tie.Need-device-slot-requires Inv-loop μ-loop
 device-slot-requires c κs = search needs

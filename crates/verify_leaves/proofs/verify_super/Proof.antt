@@ -1,13 +1,12 @@
 -- `verify_super` meets its contract: the first row is that of the frames from m on.
 use Prim.Native.Nat.{_-_}
-use mathlib.Core.Path.{_≡_, ap}
-use native.Mathlib.Omega.{arith}
+use mathlib.Core.Path.{_≡_}
 use borrow.Author.Needs.{needs}
 use denote.Ref.{now}
 use Rattle.layout.specs.Size.{entries}
 use Rattle.refusal.proofs.Loop.{refuses, passes, ends}
 use Rattle.refusal.specs.Table.{first, each}
-use Rattle.verify_rows.proofs.Range.{rest, rest-walk, passed}
+use Rattle.verify_rows.proofs.Range.{rest, rest-walk, passed-over}
 use Rattle.verify_rows.specs.Verifying.{indices, superRow}
 use Rattle.verify_leaves.proofs.verify_super.Statement.{statement}
 use Rattle.verify_leaves.proofs.verify_super.Tie as tie
@@ -25,12 +24,8 @@ past-blocks-requires c κs = search needs
 loop-holds : tie.Need-loop-holds Inv-loop μ-loop
 loop-holds c =
     let a = c .before .before .before .args in
-    let past = c .past-blocks .ensures in
-    ap first
-    (passed (superRow (now (a .arena)) (now (a .sup)) (a .ipa) (a .pa) (a .exempt)) entries 0 (c .past-blocks .result)
-    (omega arith)
-    (past .0)
-    (λ k lt le. past .1 k lt))
+    passed-over (superRow (now (a .arena)) (now (a .sup)) (a .ipa) (a .pa) (a .exempt)) entries
+    (c .past-blocks .result) (c .past-blocks .ensures)
 
 super-frame-requires : tie.Need-super-frame-requires Inv-loop μ-loop
 super-frame-requires c κs = search needs
