@@ -32,7 +32,7 @@ test: ## 27 min ## the gate: every proof and edit from nothing, then compare, ar
 
 help: ## 0 s ## lists the targets
 	@awk -F ' *## *' '/^[a-z-]+:.* ## / { sub(/:.*/, "", $$1); printf "make %-10s %-8s %s\n", $$1, $$2, $$3 }' Makefile
-	@echo "On two cores; run and test from nothing, the others where the crates are proved: from nothing that takes up to 6 min more."
+	@echo "About, on two cores (-: not measured); run and test from nothing, the others where the crates are proved, which takes up to 6 min first."
 
 fmt: ## 2 s ## lays out every file
 	@rt fmt
@@ -77,7 +77,7 @@ board: library-here ## 40 s ## board code in Rust and C: the crate's tests, and 
 	@echo "board: $$(grep -c '^test .* ok$$' target/board.log) tests of the crate, and scene S in Rust and C"
 
 # The crate over the board's archive, on an Arm processor that QEMU emulates.
-board-arm: library ## 1 min ## the crate for board code on an emulated Arm processor; installs what it needs
+board-arm: library ## - ## the crate for board code on an emulated Arm processor; installs what it needs
 	@board/arm.sh
 
 # The port beside the Rust, and the comparison itself beside seeded faults. Without the originals, rt ci still replays their recorded answers.
@@ -115,7 +115,7 @@ arm: judge-library ## 2.5 min ## two emulated Arm machines as judge; installs QE
 	@arm/build.sh
 	@INSTALL=1 arm/run.sh 2000 1
 
-arm-short: judge-library ## 1 min ## the same with fewer scenes, where QEMU is there; INSTALL=1 installs it
+arm-short: judge-library ## 1.5 min ## the same with fewer scenes, where QEMU is there; INSTALL=1 installs it
 	@arm/build.sh
 	@arm/run.sh 60 1
 
