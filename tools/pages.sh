@@ -18,7 +18,7 @@ grep -ohP '(?<![/.])\b(crates|oracle|arm|board|sabotage|tools|scenes|docs|includ
 believed() {
     awk -f tools/believed.awk "$@" | tail -1
 }
-calls=crates/s2/specs/Answers.antt demand2=crates/walks/specs/Demand2.antt demand3=crates/updates/specs/Demand3.antt dump=crates/dump/specs/Dump.antt
+calls=crates/s2/specs/Answers.antt demand2=crates/demand_2/specs/Demand2.antt demand3=crates/demand_3/specs/Demand3.antt dump=crates/dump/specs/Dump.antt
 for statement in $calls $demand2 $demand3 $dump; do
     says docs/TRUST.md "$(believed $statement)"
 done

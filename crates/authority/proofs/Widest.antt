@@ -12,7 +12,7 @@ use Rattle.edge.specs.Grant.{covers}
 use Rattle.edge.specs.declared.Grant.{Grant}
 use Rattle.fields.proofs.Default.{getD-inside}
 use Rattle.fields.specs.Named.{pick}
-use Rattle.lent.specs.Larger.{larger}
+use Rattle.lent_rows.specs.Larger.{larger}
 use Rattle.p2m.specs.Frame.{noFrame, ownerNamed, ownerOf}
 use Rattle.p2m.specs.declared.Owner.{Owner}
 use Rattle.p2m.specs.declared.Owner.the-variants.{Domain, Nobody}

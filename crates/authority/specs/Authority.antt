@@ -13,7 +13,7 @@ use Rattle.perm.specs.declared.Entry.the-variants.{Mapped, Unmapped}
 use Rattle.perm.specs.declared.Entry.{Entry}
 use Rattle.perm.specs.declared.Perm.{Perm}
 use Rattle.refusal.specs.Outcome.{refuse}
-use Rattle.refusal.specs.Table.{Row, eachFrom, table}
+use Rattle.refusal.specs.Table.{Row, eachFrom, allRows}
 use Rattle.refusal.specs.declared.Refusal.the-variants.{UnauthorizedMapping, WriteEscalation}
 use Rattle.rows.specs.Rows.{readRows}
 
@@ -49,4 +49,4 @@ reachRows frames grants dom m entry = ownerRows grants dom m (entryNamed entry) 
 
 -- 2 and 3 first, the map's code being 1; then the lowest frame first
 unfoldable pub authorityRows : List (List ℕ) → List Grant → ℕ → List ℕ → List Row
-authorityRows frames grants dom map = table (readRows 1 map ∷ eachFrom (reachRows frames grants dom) 0 map ∷ [])
+authorityRows frames grants dom map = allRows (readRows 1 map ∷ eachFrom (reachRows frames grants dom) 0 map ∷ [])

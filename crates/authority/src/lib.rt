@@ -18,7 +18,7 @@ ghost use Rattle.edge.specs.Grant.{grantOf};
 ghost use Rattle.edge.specs.declared.Grant.{Grant};
 ghost use Rattle.fields.specs.Named.{pick};
 ghost use Rattle.layout.specs.Size.{entries};
-ghost use Rattle.lent.specs.Larger.{larger};
+ghost use Rattle.lent_rows.specs.Larger.{larger};
 ghost use Rattle.p2m.specs.Frame.{ownerNamed};
 ghost use Rattle.perm.specs.Perm.{permCode};
 ghost use Rattle.perm.specs.declared.Perm.the-variants.{Rw};
@@ -35,12 +35,12 @@ pub fn check_authorized_with(
 ) -> Verdict
     ensures { λ r. ⌜ outcomeOf r ≡ first (authorityRows (now (frames .entry)) (map grantOf (now (grants .entry))) dom (now (leaves .entry))) ⌝ }
 {
-    let readable = lent::read_map(1, leaves);
+    let readable = lent_rows::read_map(1, leaves);
     let Verdict::Accepted = readable else {
         return readable;
     };
     // A map that maps nothing needs no frame looked up.
-    if lent::largest(leaves) == 0 {
+    if lent_rows::largest(leaves) == 0 {
         return Verdict::Accepted;
     }
     all_reached(dom, leaves, frames, grants)

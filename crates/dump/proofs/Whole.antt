@@ -12,7 +12,7 @@ use Rattle.layout.specs.declared.Layout.{Layout}
 use Rattle.printed.specs.Line.{badLine, refusedLine}
 use Rattle.refusal.specs.Table.{Row, Outcome, accepted, refused, first}
 use Rattle.rows.specs.Rows.{row1, guardRows, arenaGuardRows}
-use Rattle.tables.proofs.Arena.{from-zeros}
+use Rattle.encode_theorems.proofs.Arena.{from-zeros}
 use Rattle.dump.specs.Dump.{inOrder, lineAt, printedBy}
 use Rattle.dump.specs.Pieces.{pieceAt, pieces}
 use Rattle.dump.specs.declared.Answer.the-variants.{BadLine, Refused, Words}

@@ -5,9 +5,9 @@ use mathlib.Core.List.{List}
 use mathlib.Core.Path.{_≡_, refl}
 use native.Mathlib.Omega.{arith}
 use lib.ListN.{length}
-use Rattle.accepted.proofs.Accepted.{absent-devices}
-use Rattle.accepted.specs.Accepted.{Aligned, Within}
-use Rattle.accepted.specs.Guarded.{Guarded}
+use Rattle.accepted_facts.proofs.Accepted.{absent-devices}
+use Rattle.accepted_facts.specs.Accepted.{Aligned, Within}
+use Rattle.accepted_facts.specs.Guarded.{Guarded}
 use Rattle.layout.specs.Size.{entries, block, l1Span}
 use Rattle.layout.specs.Window.{devicesOf}
 use Rattle.layout.specs.declared.Layout.{Layout}

@@ -6,7 +6,7 @@ use native.Mathlib.Nat.{le-trans}
 use native.Mathlib.Omega.{arith}
 use lib.ListN.{length}
 use Rattle.layout.specs.Size.{entries}
-use Rattle.lent.proofs.Read.{read-length}
+use Rattle.lent_rows.proofs.Read.{read-length}
 use Rattle.p2m.specs.Frame.{spanCode}
 use Rattle.p2m.specs.declared.Span.{Span}
 use Rattle.refusal.specs.Table.{Row, first, eachFrom}

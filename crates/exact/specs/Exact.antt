@@ -12,7 +12,7 @@ use Rattle.p2m.specs.declared.TableSpan.{TableSpan}
 use Rattle.p2m.specs.declared.TableSpan.the-variants.{Leaves, Unsupported}
 use Rattle.perm.specs.Perm.{entryNamed}
 use Rattle.refusal.specs.Outcome.{refuse}
-use Rattle.refusal.specs.Table.{Row, eachFrom, table}
+use Rattle.refusal.specs.Table.{Row, eachFrom, allRows}
 use Rattle.refusal.specs.declared.Refusal.the-variants.{Inexact}
 use Rattle.rows.specs.Rows.{readRows}
 
@@ -41,7 +41,7 @@ row25 dom wanted m entry = refuse (not (eqb entry (wanted m))) (Inexact dom m (e
 
 -- 2 and 3 first, the map's code being the span's; then the lowest frame first
 unfoldable pub comparedRows : ℕ → Span → (ℕ → ℕ) → List ℕ → List Row
-comparedRows dom s wanted map = table (readRows (spanCode s) map ∷ eachFrom (row25 dom wanted) 0 map ∷ [])
+comparedRows dom s wanted map = allRows (readRows (spanCode s) map ∷ eachFrom (row25 dom wanted) 0 map ∷ [])
 
 -- with what the edges give
 abbrev pub exactRows : List (List ℕ) → ℕ → Span → List Edge → List ℕ → List Row

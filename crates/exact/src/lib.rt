@@ -40,7 +40,7 @@ pub fn check_exact(
 pub fn compare(dom: u16, leaves: &[u8], span: Span, wanted: [u8; Layout::ENTRIES]) -> Verdict
     ensures { λ r. ⌜ outcomeOf r ≡ first (comparedRows dom span (λ m. getD wanted m 0) (now (leaves .entry))) ⌝ }
 {
-    let readable = lent::read_map(span.code() as u64, leaves);
+    let readable = lent_rows::read_map(span.code() as u64, leaves);
     let Verdict::Accepted = readable else {
         return readable;
     };

@@ -26,7 +26,7 @@ pub enum Progress {
 pub fn start(base: &mut [u8], sup: &mut [u8]) -> Progress
     ensures { λ r. ⌜ fillingAt (now (base .exit)) (now (sup .exit)) r ≡ started (now (base .entry)) (now (sup .entry)) ⌝ }
 {
-    let lens = lent::map_lens(base, sup);
+    let lens = lent_rows::map_lens(base, sup);
     let Verdict::Accepted = lens else {
         return Progress::TooLong;
     };
@@ -134,7 +134,7 @@ fn no_conflict(base: &[u8], sup: &[u8]) -> Verdict
     }
     for m in 0..base.len() {
         if base[m] != 0 {
-            if lent::entry_at(sup, m) != 0 {
+            if lent_rows::entry_at(sup, m) != 0 {
                 return Verdict::Refused(Refusal::SpanConflict { mfn: m as u64 });
             }
         }

@@ -24,7 +24,7 @@ pub fn guard(arena: &[u64], base: &[u8], sup: &[u8], l: Layout) -> Verdict
 pub fn guard_at(limit: u64, arena: &[u64], base: &[u8], sup: &[u8], l: Layout) -> Verdict
     ensures { λ r. ⌜ outcomeOf r ≡ first (arenaGuardRows limit (now (arena .entry)) (now (base .entry)) (now (sup .entry)) l) ⌝ }
 {
-    let verdict = lent::arena_len(arena);
+    let verdict = lent_rows::arena_len(arena);
     let Verdict::Accepted = verdict else {
         return verdict;
     };
@@ -35,7 +35,7 @@ pub fn guard_at(limit: u64, arena: &[u64], base: &[u8], sup: &[u8], l: Layout) -
 pub fn guard_maps_at(limit: u64, base: &[u8], sup: &[u8], l: Layout) -> Verdict
     ensures { λ r. ⌜ outcomeOf r ≡ first (guardRows limit (now (base .entry)) (now (sup .entry)) l) ⌝ }
 {
-    let maps = lent::maps(base, sup);
+    let maps = lent_rows::maps(base, sup);
     let Verdict::Accepted = maps else {
         return maps;
     };
@@ -120,5 +120,5 @@ fn unmapped_from(sup_frames: u64, sup: &[u8]) -> bool
         return true;
     }
     let from = sup_frames as usize;
-    lent::largest(&sup[from..]) == 0
+    lent_rows::largest(&sup[from..]) == 0
 }

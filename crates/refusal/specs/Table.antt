@@ -38,8 +38,8 @@ pairs f [] = []
 pairs f (x ∷ xs) = each (f x) xs ++ pairs f xs
 
 -- all these rows, in order
-abbrev pub table : List (List Row) → List Row
-table rows = each (λ rs. rs) rows
+abbrev pub allRows : List (List Row) → List Row
+allRows rows = each (λ rs. rs) rows
 
 -- a row for each element by its position, from k on
 unfoldable pub eachFrom : {A : Type 0} → (ℕ → A → List Row) → ℕ → List A → List Row

@@ -1,9 +1,9 @@
 // Replays the Rust's recorded answers on leaf maps. A line of the input is a call in 16 numbers: which of the three it is, the domain,
 // the span, base and super, four edges, five frames and two grants. The port's nine answers are printed in the same form, after a
 // filling with both maps, and must be the Rust's, which are the expected output.
-use lines::Read;
 use p2m::Span;
 use refusal::Verdict;
+use replay_lines::Read;
 
 // More lines than any recording has: a proved loop has to end.
 const LINES: u32 = 1_000_000;
@@ -22,7 +22,7 @@ fn main() {
 fn replay_line() -> bool {
     let mut x = [0; NUMBERS];
     for i in 0..NUMBERS {
-        let Read::Number(n) = lines::read_number() else {
+        let Read::Number(n) = replay_lines::read_number() else {
             return false;
         };
         x[i] = n;
@@ -35,8 +35,8 @@ fn replay_line() -> bool {
 }
 
 fn fill(x: &[u64; NUMBERS]) -> bool {
-    let mut base = lines::bytes(x[3]);
-    let mut sup = lines::bytes(x[4]);
+    let mut base = replay_lines::bytes(x[3]);
+    let mut sup = replay_lines::bytes(x[4]);
     let edges = edges(x);
     let frames = frames(x);
     let dom = (x[1] % 65536) as u16;
@@ -45,7 +45,7 @@ fn fill(x: &[u64; NUMBERS]) -> bool {
 }
 
 fn authorized(x: &[u64; NUMBERS]) -> bool {
-    let leaves = lines::bytes(x[3]);
+    let leaves = replay_lines::bytes(x[3]);
     let frames = frames(x);
     let grants = [grant(x[14]), grant(x[15])];
     let dom = (x[1] % 65536) as u16;
@@ -54,7 +54,7 @@ fn authorized(x: &[u64; NUMBERS]) -> bool {
 }
 
 fn exact(x: &[u64; NUMBERS]) -> bool {
-    let leaves = lines::bytes(x[3]);
+    let leaves = replay_lines::bytes(x[3]);
     let edges = edges(x);
     let frames = frames(x);
     let dom = (x[1] % 65536) as u16;
@@ -106,7 +106,7 @@ fn grant(n: u64) -> [u32; 4] {
 
 fn print_answer(verdict: Verdict) -> bool {
     let answer = verdict.words();
-    lines::print_line(&answer)
+    replay_lines::print_line(&answer)
 }
 
 fn print_map(map: [u8; 8]) -> bool {
@@ -120,5 +120,5 @@ fn print_map(map: [u8; 8]) -> bool {
         map[6] as u64,
         map[7] as u64,
     ];
-    lines::print_line(&entries)
+    replay_lines::print_line(&entries)
 }

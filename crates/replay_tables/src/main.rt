@@ -19,14 +19,14 @@ fn main() {
 // Whether there was a whole line.
 fn replay_line(arena: &mut [u64]) -> bool {
     let mut x = [0; 6];
-    if !lines::read_numbers(&mut x) {
+    if !replay_lines::read_numbers(&mut x) {
         return false;
     }
     if x[0] == 0 {
         return store(arena, x[1] as usize, x[2] as usize, x[3]);
     }
     let mut numbers = [0; Layout::NUMBERS];
-    if !lines::read_numbers(&mut numbers) {
+    if !replay_lines::read_numbers(&mut numbers) {
         return false;
     }
     call_over(arena, &x, Layout::of(&numbers))
@@ -65,14 +65,14 @@ fn call(arena: &mut [u64], x: &[u64; 6], l: Layout) -> bool {
 }
 
 fn encode(arena: &mut [u64], x: &[u64; 6], l: Layout) -> bool {
-    let base = lines::bytes(x[1]);
-    let sup = lines::bytes(x[2]);
+    let base = replay_lines::bytes(x[1]);
+    let sup = replay_lines::bytes(x[2]);
     print_answer(encode::encode(arena, &base, &sup, l))
 }
 
 fn steps(arena: &mut [u64], x: &[u64; 6], l: Layout) -> bool {
-    let base = lines::bytes(x[1]);
-    let sup = lines::bytes(x[2]);
+    let base = replay_lines::bytes(x[1]);
+    let sup = replay_lines::bytes(x[2]);
     print_answer(steps_between(arena, &base, &sup, l, x[4], x[5]))
 }
 
@@ -104,18 +104,18 @@ fn walk(arena: &[u64], x: &[u64; 6], l: Layout) -> bool {
         l.l2_dev_pa,
     ];
     let answer = walk::walk(arena, &tables, x[4]).words();
-    lines::print_line(&answer)
+    replay_lines::print_line(&answer)
 }
 
 fn verify(arena: &[u64], x: &[u64; 6], l: Layout) -> bool {
-    let base = lines::bytes(x[1]);
-    let sup = lines::bytes(x[2]);
+    let base = replay_lines::bytes(x[1]);
+    let sup = replay_lines::bytes(x[2]);
     print_answer(verify::verify_encoding(arena, &base, &sup, l))
 }
 
 fn print_answer(verdict: Verdict) -> bool {
     let answer = verdict.words();
-    lines::print_line(&answer)
+    replay_lines::print_line(&answer)
 }
 
 fn print_digest(arena: &[u64]) -> bool {
@@ -124,7 +124,7 @@ fn print_digest(arena: &[u64]) -> bool {
         let word = arena[i];
         digest = joined(joined(digest, word % 0x1_0000_0000), word / 0x1_0000_0000);
     }
-    lines::print_line(&[digest])
+    replay_lines::print_line(&[digest])
 }
 
 // A polynomial in 65,599 modulo the prime 2^40 - 87, over the low and the high half of each word.

@@ -13,7 +13,7 @@ use Rattle.layout.specs.declared.Check.{Check}
 use Rattle.layout.specs.declared.Layout.{Layout}
 use Rattle.layout.specs.declared.Table.{Table}
 use Rattle.layout.specs.declared.Window.{Window}
-use Rattle.refusal.specs.Table.{Row, given, refuseIf, each, eachFrom, pairs, table}
+use Rattle.refusal.specs.Table.{Row, given, refuseIf, each, eachFrom, pairs, allRows}
 
 -- row 1: arena not 3,072 words
 unfoldable pub row1 : List ℕ → List Row
@@ -80,15 +80,15 @@ row14 frames p byte = refuseIf (not (eqb byte 0) && leb frames p) 14 (p ∷ [])
 
 -- 2 takes base before super
 unfoldable pub lengthRows : List ℕ → List ℕ → List Row
-lengthRows base sup = table (row2 base ∷ row2 sup ∷ [])
+lengthRows base sup = allRows (row2 base ∷ row2 sup ∷ [])
 
 -- maps that are read: 2, then 3, base before super; their codes are 1 and 2
 unfoldable pub mapRows : List ℕ → List ℕ → List Row
-mapRows base sup = table (lengthRows base sup ∷ eachFrom (row3 1) 0 base ∷ eachFrom (row3 2) 0 sup ∷ [])
+mapRows base sup = allRows (lengthRows base sup ∷ eachFrom (row3 1) 0 base ∷ eachFrom (row3 2) 0 sup ∷ [])
 
 -- one map that is read, by its code
 unfoldable pub readRows : ℕ → List ℕ → List Row
-readRows code map = table (row2 map ∷ eachFrom (row3 code) 0 map ∷ [])
+readRows code map = allRows (row2 map ∷ eachFrom (row3 code) 0 map ∷ [])
 
 -- 11 and 12 of a pair, if both windows are present
 unfoldable pub pairRows : Window → Window → List Row
@@ -96,7 +96,7 @@ pairRows v w = given (v .present && w .present) (row11 v w ++ row12 v w)
 
 -- 9 and 10 take all windows; then come 11 and 12 pair by pair
 unfoldable pub windowRows : ℕ → List Window → List Row
-windowRows limit ws = table (each row9 ws ∷ each (row10 limit) ws ∷ pairs pairRows ws ∷ [])
+windowRows limit ws = allRows (each row9 ws ∷ each (row10 limit) ws ∷ pairs pairRows ws ∷ [])
 
 -- no limit is above 2^48
 abbrev pub capped : ℕ → ℕ
@@ -105,7 +105,7 @@ capped limit = pick (ltb outputLimit limit) outputLimit limit
 -- a layout: 4 to 12, where tables and outputs lie below a limit
 unfoldable pub refusalsAt : ℕ → Layout → List Row
 refusalsAt limit l =
-    table
+    allRows
     (each row4 (devicesOf l)
     ∷ row5 l
     ∷ each row6 (checksOf l)
@@ -120,7 +120,7 @@ refusals l = refusalsAt boardLimit l
 -- where no arena is lent: 2 and 3, then 4 to 12, then 13, then 14
 unfoldable pub guardRows : ℕ → List ℕ → List ℕ → Layout → List Row
 guardRows limit base sup l =
-    table
+    allRows
     (mapRows base sup
     ∷ refusalsAt limit l
     ∷ pairs row13 (tablesOf l)
@@ -129,4 +129,4 @@ guardRows limit base sup l =
 
 -- encoding and updates: 1, then the others
 unfoldable pub arenaGuardRows : ℕ → List ℕ → List ℕ → List ℕ → Layout → List Row
-arenaGuardRows limit arena base sup l = table (row1 arena ∷ guardRows limit base sup l ∷ [])
+arenaGuardRows limit arena base sup l = allRows (row1 arena ∷ guardRows limit base sup l ∷ [])

@@ -8,7 +8,7 @@ use Rattle.arena.specs.Encoded.{target}
 use Rattle.fields.specs.Named.{pick}
 use Rattle.layout.specs.Size.{boardLimit, arenaLength}
 use Rattle.layout.specs.declared.Layout.{Layout}
-use Rattle.refusal.specs.Table.{Row, refuseIf, table, Outcome, accepted, refused, first}
+use Rattle.refusal.specs.Table.{Row, refuseIf, allRows, Outcome, accepted, refused, first}
 use Rattle.rows.specs.Rows.{arenaGuardRows}
 
 -- half-way is after 3,072 stores
@@ -33,7 +33,7 @@ row26 n = refuseIf (leb stepCount n) 26 []
 
 -- 1 to 14, then 26
 unfoldable pub stepRows : Layout → List ℕ → List ℕ → ℕ → List ℕ → List Row
-stepRows l base sup n words = table (arenaGuardRows boardLimit words base sup l ∷ row26 n ∷ [])
+stepRows l base sup n words = allRows (arenaGuardRows boardLimit words base sup l ∷ row26 n ∷ [])
 
 -- one word is set; a refusal leaves every word as found
 abbrev pub leftBy : Outcome → Layout → List ℕ → List ℕ → ℕ → List ℕ → List ℕ

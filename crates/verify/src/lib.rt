@@ -10,11 +10,11 @@ ghost use Rattle.verify_rows.specs.Verifying.{encodingRows, verifyRows};
 pub fn verify_encoding(arena: &[u64], base: &[u8], sup: &[u8], l: Layout) -> Verdict
     ensures { λ r. ⌜ outcomeOf r ≡ first (verifyRows (now (arena .entry)) (now (base .entry)) (now (sup .entry)) l) ⌝ }
 {
-    let long = lent::arena_len(arena);
+    let long = lent_rows::arena_len(arena);
     let Verdict::Accepted = long else {
         return long;
     };
-    let maps = lent::maps(base, sup);
+    let maps = lent_rows::maps(base, sup);
     let Verdict::Accepted = maps else {
         return maps;
     };

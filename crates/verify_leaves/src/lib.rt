@@ -39,7 +39,7 @@ fn past_pages(arena: &[u64], base: &[u8], pa: u64) -> usize
     }
     for m in 0..Layout::ENTRIES {
         let d = arena[from + m];
-        let entry = lent::entry_at(base, m);
+        let entry = lent_rows::entry_at(base, m);
         if d != arena::page_word(pa, m as u32, entry) {
             return m;
         }
@@ -53,7 +53,7 @@ fn base_frame(arena: &[u64], base: &[u8], pa: u64, m: usize) -> Verdict
 {
     let index = m as u64;
     let d = verify_word::table_word(arena, 4, m as u32);
-    let entry = lent::entry_at(base, m);
+    let entry = lent_rows::entry_at(base, m);
     let want = verify_word::wanted_leaf(entry, arena::page_address(pa, m as u32), false);
     verify_word::leaf(4, index, d, index, verify_word::read_page(d), want)
 }
@@ -82,7 +82,7 @@ fn past_blocks(arena: &[u64], sup: &[u8], ipa: u64, pa: u64, exempt: bool) -> us
     for m in 0..Layout::ENTRIES {
         let at = from + super_index(ipa, m) as usize;
         let d = arena[at];
-        let entry = lent::entry_at(sup, m);
+        let entry = lent_rows::entry_at(sup, m);
         if d != arena::block_word(pa, m as u32, exempt, entry) {
             return m;
         }
@@ -96,7 +96,7 @@ fn super_frame(arena: &[u64], sup: &[u8], ipa: u64, pa: u64, exempt: bool, m: us
 {
     let index = super_index(ipa, m);
     let d = verify_word::table_word(arena, 5, index as u32);
-    let entry = lent::entry_at(sup, m);
+    let entry = lent_rows::entry_at(sup, m);
     let want = verify_word::wanted_leaf(entry, arena::block_address(pa, m as u32), exempt);
     verify_word::leaf(5, index, d, m as u64, verify_word::read_block(d), want)
 }

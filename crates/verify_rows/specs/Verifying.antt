@@ -14,7 +14,7 @@ use Rattle.layout.specs.Window.{imageWindow, deviceWindow, l2Slot}
 use Rattle.layout.specs.declared.Area.{Area}
 use Rattle.layout.specs.declared.Layout.{Layout}
 use Rattle.layout.specs.declared.Window.{Window}
-use Rattle.refusal.specs.Table.{Row, given, each, table}
+use Rattle.refusal.specs.Table.{Row, given, each, allRows}
 use Rattle.rows.specs.Rows.{row1, mapRows, refusals}
 use Rattle.verify_rows.specs.Word.{readPage, readBlock, row18, row19, spurious, wantedLeaf, leafRow, blockRow}
 
@@ -61,19 +61,19 @@ otherRows arena l t = each (otherRow arena l t) indices
 
 -- table 1: 18, then 21
 unfoldable pub l1Rows : List ℕ → Layout → List Row
-l1Rows arena l = table (each (liveRow arena) (liveAreasOf l) ∷ otherRows arena l 1 ∷ [])
+l1Rows arena l = allRows (each (liveRow arena) (liveAreasOf l) ∷ otherRows arena l 1 ∷ [])
 
 -- table 2: 19, if there is an image, then 21
 unfoldable pub imageRows : List ℕ → Layout → List Row
 imageRows arena l =
     let image = imageWindow (l .«guest_image_pa») in
-    table (given (image .present) (row19 (word arena 2 (l2Slot (image .ipa))) (image .pa)) ∷ otherRows arena l 2 ∷ [])
+    allRows (given (image .present) (row19 (word arena 2 (l2Slot (image .ipa))) (image .pa)) ∷ otherRows arena l 2 ∷ [])
 
 -- table 3: 18, then 21
 unfoldable pub dataRows : List ℕ → Layout → List Row
 dataRows arena l =
     let j = l2Slot (l .«data_ipa_base») in
-    table (row18 3 j (word arena 3 j) (l .«l3_data_pa») ∷ otherRows arena l 3 ∷ [])
+    allRows (row18 3 j (word arena 3 j) (l .«l3_data_pa») ∷ otherRows arena l 3 ∷ [])
 
 -- base frame m: page m of data's output, at index m of table 4
 unfoldable pub baseRow : List ℕ → List ℕ → ℕ → ℕ → List Row
@@ -119,7 +119,7 @@ deviceRows arena t w = each (deviceRow arena t w) indices
 -- what is wrong in the words, table by table
 unfoldable pub encodingRows : List ℕ → List ℕ → List ℕ → Layout → List Row
 encodingRows arena base sup l =
-    table
+    allRows
     (l1Rows arena l
     ∷ imageRows arena l
     ∷ dataRows arena l
@@ -131,4 +131,4 @@ encodingRows arena base sup l =
 -- the whole: 1, 2 and 3, 4 to 12, then the words; 13 and 14 are not tested here
 unfoldable pub verifyRows : List ℕ → List ℕ → List ℕ → Layout → List Row
 verifyRows arena base sup l =
-    table (row1 arena ∷ mapRows base sup ∷ refusals l ∷ encodingRows arena base sup l ∷ [])
+    allRows (row1 arena ∷ mapRows base sup ∷ refusals l ∷ encodingRows arena base sup l ∷ [])

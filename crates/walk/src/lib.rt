@@ -25,7 +25,7 @@ pub enum Stop {
 pub fn walk(arena: &[u64], tables: &[u64; Layout::TABLES], ipa: u64) -> Walked
     ensures { λ r. ⌜ toldOf r ≡ walkedFrom (now (arena .entry)) (now (tables .entry)) ipa ⌝ }
 {
-    let verdict = lent::arena_len(arena);
+    let verdict = lent_rows::arena_len(arena);
     match verdict {
         Verdict::Accepted => Walked::Told(reach_of(descend(arena, tables, ipa), ipa)),
         Verdict::Refused(refusal) => Walked::Refused(refusal),

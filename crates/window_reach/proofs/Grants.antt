@@ -6,7 +6,7 @@ use mathlib.Core.Path.{_≡_, sym, ap, _∙_}
 use native.Mathlib.Numerals.{add-one}
 use lib.ListN.{length, getD, drop, drop-of-length-le}
 use lib.Seq.{drop-cons}
-use Rattle.accepted.specs.Accepted.{Within}
+use Rattle.accepted_facts.specs.Accepted.{Within}
 use Rattle.layout.specs.Window.{window}
 use Rattle.layout.specs.declared.Window.{Window}
 use Rattle.reach.specs.declared.Reached.the-variants.{Nothing}

@@ -13,8 +13,8 @@ ghost use mathlib.Core.Bool.{true};
 ghost use mathlib.Core.List.{map};
 ghost use mathlib.Core.Path.{_≡_};
 ghost use lib.ListN.{getD};
-ghost use Rattle.accepted.specs.Accepted.{Within};
-ghost use Rattle.accepted.specs.Guarded.{Guarded};
+ghost use Rattle.accepted_facts.specs.Accepted.{Within};
+ghost use Rattle.accepted_facts.specs.Guarded.{Guarded};
 ghost use Rattle.layout.specs.Size.{boardLimit};
 ghost use Rattle.reach.specs.Reach.{toldOf};
 ghost use Rattle.refusal.specs.All.{All};
@@ -91,7 +91,7 @@ fn entry_of(map: &[u8], w: Window, ipa: u64, piece: u64) -> u8
     requires { ⌜ 0 < piece ⌝ }
     ensures { λ r. ⌜ r ≡ getD (now (map .entry)) ((ipa - w .ipa) / piece) 0 ⌝ }
 {
-    lent::entry_at(map, ((ipa - w.ipa) / piece) as usize)
+    lent_rows::entry_at(map, ((ipa - w.ipa) / piece) as usize)
 }
 
 // The same offset from the output base.

@@ -7,8 +7,8 @@ use lib.ListN.{getD}
 use borrow.Author.Needs.{needs}
 use denote.Ref.{now}
 use Rattle.edge.specs.Grant.{grantOf}
-use Rattle.lent.proofs.Larger.{at-most}
-use Rattle.lent.proofs.Read.{read-length}
+use Rattle.lent_rows.proofs.Larger.{at-most}
+use Rattle.lent_rows.proofs.Read.{read-length}
 use Rattle.perm.specs.Perm.{entryNamed}
 use Rattle.refusal.proofs.First.{next, stop, last}
 use Rattle.refusal.proofs.None.{accept, from-nowhere}

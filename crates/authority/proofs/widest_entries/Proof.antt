@@ -8,7 +8,7 @@ use borrow.Author.Needs.{needs}
 use denote.Ref.{now}
 use Rattle.edge.specs.Grant.{grantOf}
 use Rattle.layout.specs.Size.{entries}
-use Rattle.lent.specs.Larger.{larger}
+use Rattle.lent_rows.specs.Larger.{larger}
 use Rattle.authority.specs.Widest.{widestBy}
 use Rattle.authority.proofs.Noted.{Noted, one-noted, all-noted}
 use Rattle.authority.proofs.widest_entries.Statement.{statement}

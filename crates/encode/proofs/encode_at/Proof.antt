@@ -2,7 +2,7 @@
 use mathlib.Core.Path.{sym, ap, _∙_}
 use borrow.Author.Needs.{needs}
 use denote.Ref.{now}
-use Rattle.accepted.proofs.Guarded.{arena-guarded-facts}
+use Rattle.accepted_facts.proofs.Guarded.{arena-guarded-facts}
 use Rattle.arena.proofs.Over.{over-same}
 use Rattle.refusal.specs.Outcome.{outcomeOf}
 use Rattle.encode.specs.Encoding.{left}

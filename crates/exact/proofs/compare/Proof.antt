@@ -6,7 +6,7 @@ use lib.ListN.{length}
 use borrow.Author.Needs.{needs}
 use denote.Ref.{now}
 use Rattle.layout.specs.Size.{entries}
-use Rattle.lent.proofs.Read.{read-length}
+use Rattle.lent_rows.proofs.Read.{read-length}
 use Rattle.p2m.specs.Frame.{spanCode}
 use Rattle.refusal.proofs.First.{next, stop, last}
 use Rattle.refusal.specs.Outcome.{outcomeOf}

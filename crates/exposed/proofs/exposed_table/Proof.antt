@@ -1,7 +1,7 @@
 -- `exposed_table` meets its contract: rows 4 to 12 decide whether it is told.
 use mathlib.Core.Path.{_∙_, sym, ap}
 use borrow.Author.Needs.{needs}
-use Rattle.accepted.proofs.Accepted.{accepted-facts}
+use Rattle.accepted_facts.proofs.Accepted.{accepted-facts}
 use Rattle.layout.specs.Size.{boardLimit}
 use Rattle.refusal.proofs.Told.{tells, denies}
 use Rattle.refusal.specs.Outcome.{outcomeOf}

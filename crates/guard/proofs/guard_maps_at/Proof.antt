@@ -7,7 +7,7 @@ use Rattle.layout.specs.Layout.{tablesOf}
 use Rattle.layout.specs.declared.Layout.{Layout}
 use Rattle.refusal.proofs.First.{next, stop, last}
 use Rattle.refusal.specs.Outcome.{outcomeOf}
-use Rattle.refusal.specs.Table.{Row, first, eachFrom, pairs, table}
+use Rattle.refusal.specs.Table.{Row, first, eachFrom, pairs, allRows}
 use Rattle.rows.specs.Rows.{row13, row14, refusalsAt, guardRows}
 use Rattle.guard.proofs.guard_maps_at.Statement.{statement}
 use Rattle.guard.proofs.guard_maps_at.Tie as tie
@@ -16,10 +16,10 @@ use Rattle.guard.proofs.guard_maps_at.Tie as tie
 
 abbrev from4 : ℕ → List ℕ → Layout → List Row
 from4 limit sup l =
-    table (refusalsAt limit l ∷ pairs row13 (tablesOf l) ∷ eachFrom (row14 (l .«sup_frames»)) 0 sup ∷ [])
+    allRows (refusalsAt limit l ∷ pairs row13 (tablesOf l) ∷ eachFrom (row14 (l .«sup_frames»)) 0 sup ∷ [])
 
 abbrev from13 : ℕ → List ℕ → Layout → List Row
-from13 limit sup l = table (pairs row13 (tablesOf l) ∷ eachFrom (row14 (l .«sup_frames»)) 0 sup ∷ [])
+from13 limit sup l = allRows (pairs row13 (tablesOf l) ∷ eachFrom (row14 (l .«sup_frames»)) 0 sup ∷ [])
 
 -- the first row is among those that are left
 abbrev Left : tie.Start → (ℕ → List ℕ → Layout → List Row) → Type 0

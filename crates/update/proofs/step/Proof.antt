@@ -5,7 +5,7 @@ use native.Mathlib.Omega.{arith}
 use lib.ListN.{set}
 use borrow.Author.Needs.{needs}
 use denote.Ref.{now}
-use Rattle.accepted.proofs.Guarded.{arena-guarded-facts}
+use Rattle.accepted_facts.proofs.Guarded.{arena-guarded-facts}
 use Rattle.layout.specs.Size.{boardLimit}
 use Rattle.refusal.proofs.First.{next, stop}
 use Rattle.refusal.specs.Outcome.{outcomeOf}

@@ -12,7 +12,7 @@ use Rattle.layout.specs.declared.Layout.{Layout}
 use Rattle.layout.specs.declared.SuperWindow.the-variants.{Counted, Uncountable}
 use Rattle.refusal.proofs.First.{next, stop, last}
 use Rattle.refusal.specs.Outcome.{outcomeOf}
-use Rattle.refusal.specs.Table.{Row, first, each, table}
+use Rattle.refusal.specs.Table.{Row, first, each, allRows}
 use Rattle.rows.specs.Rows.{row4, row5, row6, row7, row8, windowRows, capped, refusalsAt}
 use Rattle.validate.proofs.validate_at.Statement.{statement}
 use Rattle.validate.proofs.validate_at.Tie as tie
@@ -21,20 +21,20 @@ use Rattle.validate.proofs.validate_at.Tie as tie
 
 abbrev from5 : ℕ → Layout → List Row
 from5 limit l =
-    table (row5 l ∷ each row6 (checksOf l) ∷ each (row7 limit) (tablesOf l) ∷ row8 l ∷ windowRows limit (windowsOf l) ∷ [])
+    allRows (row5 l ∷ each row6 (checksOf l) ∷ each (row7 limit) (tablesOf l) ∷ row8 l ∷ windowRows limit (windowsOf l) ∷ [])
 
 abbrev from6 : ℕ → Layout → List Row
 from6 limit l =
-    table (each row6 (checksOf l) ∷ each (row7 limit) (tablesOf l) ∷ row8 l ∷ windowRows limit (windowsOf l) ∷ [])
+    allRows (each row6 (checksOf l) ∷ each (row7 limit) (tablesOf l) ∷ row8 l ∷ windowRows limit (windowsOf l) ∷ [])
 
 abbrev from7 : ℕ → Layout → List Row
-from7 limit l = table (each (row7 limit) (tablesOf l) ∷ row8 l ∷ windowRows limit (windowsOf l) ∷ [])
+from7 limit l = allRows (each (row7 limit) (tablesOf l) ∷ row8 l ∷ windowRows limit (windowsOf l) ∷ [])
 
 abbrev from8 : ℕ → Layout → List Row
-from8 limit l = table (row8 l ∷ windowRows limit (windowsOf l) ∷ [])
+from8 limit l = allRows (row8 l ∷ windowRows limit (windowsOf l) ∷ [])
 
 abbrev from9 : ℕ → Layout → List Row
-from9 limit l = table (windowRows limit (windowsOf l) ∷ [])
+from9 limit l = allRows (windowRows limit (windowsOf l) ∷ [])
 
 -- the first row is among those that are left, the limit being cut
 abbrev Left : tie.Start → (ℕ → Layout → List Row) → Type 0

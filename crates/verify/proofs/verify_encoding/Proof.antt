@@ -4,7 +4,7 @@ use mathlib.Core.Path.{_≡_, _∙_, refl, sym}
 use borrow.Author.Needs.{needs}
 use denote.Ref.{now}
 use Rattle.refusal.proofs.First.{next, stop, last}
-use Rattle.refusal.specs.Table.{first, table}
+use Rattle.refusal.specs.Table.{first, allRows}
 use Rattle.rows.specs.Rows.{mapRows, refusals}
 use Rattle.verify_rows.specs.Verifying.{encodingRows, verifyRows}
 use Rattle.verify.proofs.verify_encoding.Statement.{statement}
@@ -22,7 +22,7 @@ past-1 :
     (c : tie.After-enum-told) →
     let a = at1 c .args in
     first (verifyRows (now (a .arena)) (now (a .base)) (now (a .sup)) (a .l))
-    ≡ first (table
+    ≡ first (allRows
     (mapRows (now (a .base)) (now (a .sup))
     ∷ refusals (a .l)
     ∷ encodingRows (now (a .arena)) (now (a .base)) (now (a .sup)) (a .l)
@@ -34,7 +34,7 @@ past-3 :
     (c : tie.After-enum-told3) →
     let a = at3 c .args in
     first (verifyRows (now (a .arena)) (now (a .base)) (now (a .sup)) (a .l))
-    ≡ first (table (refusals (a .l) ∷ encodingRows (now (a .arena)) (now (a .base)) (now (a .sup)) (a .l) ∷ []))
+    ≡ first (allRows (refusals (a .l) ∷ encodingRows (now (a .arena)) (now (a .base)) (now (a .sup)) (a .l) ∷ []))
 unfolding flatMap
 past-3 c =
     let v = c .before .before in

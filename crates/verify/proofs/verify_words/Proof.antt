@@ -8,7 +8,7 @@ use denote.Ref.{now}
 use Rattle.layout.specs.Window.{deviceWindow}
 use Rattle.layout.specs.declared.Window.{Window}
 use Rattle.refusal.proofs.First.{next, stop, last}
-use Rattle.refusal.specs.Table.{Row, first, table}
+use Rattle.refusal.specs.Table.{Row, first, allRows}
 use Rattle.verify_rows.specs.Verifying.{l1Rows, imageRows, dataRows, pageRows, superRows, deviceRows, encodingRows}
 use Rattle.verify.proofs.verify_words.Statement.{statement}
 use Rattle.verify.proofs.verify_words.Tie as tie
@@ -30,7 +30,7 @@ tableRows s =
 abbrev Left : tie.Start → ℕ → Type 0
 Left s n =
     let a = s .args in
-    first (encodingRows (now (a .arena)) (now (a .base)) (now (a .sup)) (a .l)) ≡ first (table (drop n (tableRows s)))
+    first (encodingRows (now (a .arena)) (now (a .base)) (now (a .sup)) (a .l)) ≡ first (allRows (drop n (tableRows s)))
 
 -- where each table is passed
 

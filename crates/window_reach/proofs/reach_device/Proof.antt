@@ -6,7 +6,7 @@ use mathlib.Core.Path.{_≡_, refl, sym, _∙_}
 use native.Mathlib.Omega.{arith}
 use lib.ListN.{length, getD, drop}
 use borrow.Author.Needs.{needs}
-use Rattle.accepted.specs.Accepted.{Within}
+use Rattle.accepted_facts.specs.Accepted.{Within}
 use Rattle.layout.specs.Size.{boardLimit}
 use Rattle.refusal.proofs.All.{all-at}
 use Rattle.window_reach.specs.Granted.{deviceRegion, grantedBy}

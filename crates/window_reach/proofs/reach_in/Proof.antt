@@ -7,7 +7,7 @@ use native.Mathlib.Omega.{arith}
 use lib.ListN.{getD}
 use borrow.Author.Needs.{needs}
 use denote.Ref.{now}
-use Rattle.accepted.specs.Accepted.{Within}
+use Rattle.accepted_facts.specs.Accepted.{Within}
 use Rattle.layout.proofs.Counted.{counted, always}
 use Rattle.layout.specs.Size.{boardLimit}
 use Rattle.layout.specs.Window.{window, devicesOf, windowsWith, windowsOf}

@@ -1,7 +1,7 @@
 -- `window_reach` meets its contract: rows 2 to 14 decide whether it is told.
 use mathlib.Core.Path.{_∙_, sym, ap}
 use borrow.Author.Needs.{needs}
-use Rattle.accepted.proofs.Guarded.{guarded-facts}
+use Rattle.accepted_facts.proofs.Guarded.{guarded-facts}
 use Rattle.layout.specs.Size.{boardLimit}
 use Rattle.refusal.proofs.Told.{tells, denies}
 use Rattle.refusal.specs.Outcome.{outcomeOf}

@@ -1,0 +1,36 @@
+-- Document 01's examples, by computation.
+use mathlib.Core.List.{flatMap}
+use mathlib.Core.Path.{refl}
+use Rattle.authority.specs.Authority.{hasGrant, ownerRows, reachRows, authorityRows}
+use Rattle.edge.specs.Edge.{owns, counts}
+use Rattle.edge.specs.Grant.{covers}
+use Rattle.exact.specs.Exact.{lands, afterEdge, afterEdges, row25, comparedRows}
+use Rattle.filling.specs.Filling.{putIn, placed, onward, placedAll, row17, conflicts, started, filled}
+use Rattle.refusal.specs.Table.{first, eachFrom}
+use Rattle.rows.specs.Rows.{row2, row3, lengthRows, readRows}
+use Rattle.leafmap_theorems.specs.Examples.{Examples}
+
+pub examples : Examples
+unfolding first flatMap eachFrom row2 row3 lengthRows readRows owns counts covers putIn placed onward placedAll row17 conflicts started filled hasGrant ownerRows reachRows authorityRows lands afterEdge afterEdges row25 comparedRows
+examples =
+    record {
+      four-edges = refl;
+      row2 = refl;
+      no-row3 = refl;
+      row15 = refl;
+      row16 = refl;
+      row17 = refl;
+      smallest-first = refl;
+      skipped = refl;
+      later = refl;
+      row23 = refl;
+      row23-foreign = refl;
+      row24 = refl;
+      authorized = refl;
+      row25 = refl;
+      last-edge = refl;
+      row3-code = refl;
+      hidden-conflict = refl;
+      refused-yet-exact = refl;
+      rx-by-reading = refl;
+    }
