@@ -9,8 +9,7 @@ use Rattle.decode.specs.declared.DecodedLeaf.{DecodedLeaf}
 use Rattle.decode.specs.declared.DecodedTable.the-variants.{At, Nothing as NoTable}
 use Rattle.decode.specs.declared.DecodedTable.{DecodedTable}
 use Rattle.desc.specs.Descriptor.{blockType, tableType, pageType}
-use Rattle.desc.specs.Words.{pageWord, blockWord, imageWord, deviceWord, leafAccessXn}
-use Rattle.desc.specs.Words.{s2apOf}
+use Rattle.desc.specs.Words.{pageWord, blockWord, imageWord, deviceWord, leafAccessXn, s2apOf}
 use Rattle.fields.specs.Named.{named}
 use Rattle.fields.specs.Numbers.{eight, bit}
 use Rattle.memtype.specs.Memory.{mairByte, leafBits, shareabilityBits}

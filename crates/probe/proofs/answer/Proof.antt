@@ -259,6 +259,7 @@ returns-19 c =
     let b = c .before .before in
     c .vttbr-parts .ensures ∙ asked (now (b .before .args .x)) (b .match .keys19)
 
+-- no arm is the one asked for; rN says it of 0 to N
 returns-20 : tie.Need-returns-20
 unfolding answerOf
 returns-20 c =
