@@ -3,7 +3,7 @@
 # many; so much stack is taken; and the board's register has its value. And make help lists every target that is no step of another.
 set -eu
 cd "$(dirname "$0")/.."
-pages="README.md NOTICE docs/*.md oracle/README.md arm/README.md board/README.md"
+pages="README.md NOTICE docs/*.md crates/README.md oracle/README.md arm/README.md board/README.md"
 
 # says PAGE TEXT: the page has the text.
 says() {
@@ -25,6 +25,11 @@ done
 says docs/TRUST.md "$(believed $calls $demand2 $demand3 $dump)"
 
 says docs/SABOTAGE.md "There are $(ls crates/*/must-fail/*.edit | wc -l), in $(ls -d crates/*/must-fail | wc -l) crates"
+
+definitions=$(grep -l '^file: specs' crates/*/must-fail/*.edit | wc -l)
+contracts=$(grep -l '^file: src' crates/*/must-fail/*.edit | xargs grep -lE '^old: .*(≡|∷|\.entry|\.exit|λ m|Vtcr\.Value)' | wc -l)
+code=$(($(ls crates/*/must-fail/*.edit | wc -l) - definitions - contracts))
+says docs/SABOTAGE.md "$definitions alter a definition or a statement, $contracts a contract and $code code"
 
 # What make help lists.
 for target in $(sed -n 's/^\.PHONY: run /run /p' Makefile); do

@@ -12,18 +12,17 @@ use Rattle.accepted_facts.specs.Accepted.{Aligned, Nameable, Within, Apart}
 use Rattle.accepted_facts.specs.Guarded.{Guarded}
 use Rattle.arena.proofs.At.{l1At, dataAt, at-1, at-3, run-2, run-4, run-5, run-6}
 use Rattle.arena.proofs.Runs.{table-of, index-of, run-inside}
-use Rattle.arena.specs.Encoded.{Run, pageAt, tableOf, indexOf, wordAt, pageRun, superRun, deviceRun, imageRun, target}
+use Rattle.arena.specs.Encoded.{Run, pageAt, tableOf, wordAt, pageRun, superRun, deviceRun, imageRun, target}
 use Rattle.arena.specs.Word.{tableTo, imageTo, deviceTo}
 use Rattle.decode.specs.Emitted.{Output}
 use Rattle.fields.specs.Named.{pick}
-use Rattle.layout.specs.Area.{area, areaHas}
+use Rattle.layout.specs.Area.{areaHas}
 use Rattle.layout.specs.Layout.{tableIf, tablesOf}
 use Rattle.layout.specs.Size.{entries, page, block, inputLimit, boardLimit, tableCount, arenaLength}
 use Rattle.layout.specs.Window.{imageWindow, deviceWindow, l1Slot, l2Slot, slot}
 use Rattle.layout.specs.declared.GuestImage.{GuestImage}
 use Rattle.layout.specs.declared.GuestImage.the-variants.{At, Absent}
 use Rattle.layout.specs.declared.Layout.{Layout}
-use Rattle.layout.specs.declared.Table.{Table}
 use Rattle.layout.specs.declared.Window.{Window}
 use Rattle.manual.specs.Translation.{translation}
 use Rattle.perm.specs.Perm.{permCode}
@@ -35,7 +34,7 @@ use Rattle.encode_theorems.proofs.Arena.{from-zeros}
 use Rattle.walk.specs.Descent.{Words, wordsOf, index}
 use Rattle.walk.specs.Path.{PathAgrees}
 use Rattle.walk.specs.Walk.{walkOf}
-use Rattle.window_reach.specs.Granted.{Region, imageRegion, dataRegion, superRegion, deviceRegion, regionsOf, contains, grantedBy, granted}
+use Rattle.window_reach.specs.Granted.{Region, imageRegion, dataRegion, superRegion, deviceRegion, regionsOf, contains, granted}
 use Rattle.demand_2.specs.Demand2.{addressesOf, Reaches, Demand2, Demand2Whole, Demand2Encoded}
 use Rattle.demand_2.proofs.Entries.{Entry, page-entry, block-entry, image-entry, device-entry}
 use Rattle.demand_2.proofs.Fetched.{both, allPresent, present-at, fetched}

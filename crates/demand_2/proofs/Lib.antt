@@ -8,5 +8,6 @@ pub mod Parts
 pub mod Path
 pub mod Seen
 pub mod Slots
+pub mod Stops
 pub mod Tabled
 pub mod Windows

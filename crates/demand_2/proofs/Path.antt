@@ -1,17 +1,16 @@
 -- What is seen along a path is seen over any words that agree along it.
-use Prim.Native.Nat.{ℕ, suc, _+_, _*_, _<_, _≤_}
+use Prim.Native.Nat.{ℕ, suc, _+_, _*_, _<_}
 use mathlib.Core.Bool.{Bool, true, false}
 use mathlib.Core.List.{List, [], _∷_}
-use mathlib.Core.Path.{_≡_, refl, sym, ap, _∙_}
+use mathlib.Core.Path.{_≡_, refl, ap, _∙_}
 use native.Mathlib.Omega.{arith}
 use lib.Dec.{eqb}
 use lib.ListN.{length, getD}
-use Rattle.decode.specs.declared.DecodedTable.the-variants.{At}
 use Rattle.fields.specs.Named.{pick}
 use Rattle.layout.specs.Size.{entries}
 use Rattle.reach.specs.declared.Reached.{Reached}
-use Rattle.walk.specs.Descent.{Words, index, fetchFrom, fetch, nextTable}
-use Rattle.walk.specs.Path.{readOf, AgreesFrom}
+use Rattle.walk.specs.Descent.{Words, index, fetchFrom, nextTable}
+use Rattle.walk.specs.Path.{wordRead, AgreesFrom}
 use Rattle.demand_2.proofs.Seen.{Names-table, Finds, Seen, blank1, blank2, blank3, block2, page3}
 
 module _ (words others : Words) (named j : ℕ) where
@@ -45,7 +44,7 @@ module _ (words others : Words) (named j : ℕ) where
 module _ (tables : List ℕ) (words others : Words) (x : ℕ) where
   -- a read of the other words is one of these
   found :
-      (left named d : ℕ) → readOf tables words others x words left named ≡ readOf tables words others x others left named →
+      (left named d : ℕ) → wordRead tables words others x words left named ≡ wordRead tables words others x others left named →
       Finds tables others x left named d → Finds tables words x left named d
   found left named d e f out = whatever words others named (index left x) tables 0 out e ∙ f out
 
@@ -67,7 +66,7 @@ module _ (tables : List ℕ) (words others : Words) (x : ℕ) where
 
   -- words that are equal agree along every path
   module _ (same : (i : ℕ) → i < length tables * entries → words i ≡ others i) where
-    at-read : (left named : ℕ) → readOf tables words others x words left named ≡ readOf tables words others x others left named
+    at-read : (left named : ℕ) → wordRead tables words others x words left named ≡ wordRead tables words others x others left named
     at-read left named =
         everywhere words others named (index left x) tables 0 (omega arith) (λ i less. same i (omega (arith, less)))
 

@@ -23,6 +23,7 @@ examples =
     record {
       empty = refl;
       two-digits = refl;
+      last-output = refl;
       later-line = refl;
       bad = refl;
       empty-line = refl;

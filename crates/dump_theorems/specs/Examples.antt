@@ -3,6 +3,7 @@ use Prim.Native.Nat.{ℕ}
 use Prim.Native.String.{String}
 use mathlib.Core.List.{List, [], _∷_, _++_}
 use mathlib.Core.Path.{_≡_}
+use lib.ListN.{take, drop}
 use Rattle.dump.specs.Dump.{dump}
 use Rattle.fields.specs.Ascii.{ascii}
 
@@ -52,6 +53,10 @@ pub record Examples : Type 0 where
   pub empty : dump [] ≡ ascii "REFUSED 5\n"
   -- a row's number of two digits: data pa 2^48
   pub two-digits : dump (bytes linesOfS ++ ascii "L 9 1000000000000\n") ≡ ascii "REFUSED 10\n"
+  -- the last output below it
+  pub last-output :
+      dump (bytes linesOfS ++ ascii "L 9 FFFFFFE00000\n")
+      ≡ bytes (take 4 printedOfS ++ ("4 001 0040FFFFFFE017FF\n" ∷ drop 5 printedOfS))
   -- 'a later line replaces an earlier one', and 'the last line may lack' its line feed
   pub later-line : dump (ascii "L 1 1\n" ++ (bytes linesOfS ++ ascii "B 1 2")) ≡ bytes printedOfS
   -- 'A line outside this form prints BAD LINE and ends'

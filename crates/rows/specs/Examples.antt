@@ -92,6 +92,10 @@ pub record Examples : Type 0 where
       validated (line 0x10 0 (line 0xC 0x5020_0000 (line 9 0x5000_1000 sceneS))) ≡ refused (row 12 [])
   -- a limit above 2^48 is 2^48
   pub table-past-48-bits : first (refusalsAt (2 ^ 64) (layoutOf (line 1 (2 ^ 48) sceneS))) ≡ refused (row 7 (1 ∷ 2 ^ 48 ∷ []))
+  -- a table is tested whether its window is present or not
+  pub table-of-no-device : validated (line 0xE 0 (line 6 1 sceneS)) ≡ refused (row 7 (6 ∷ 1 ∷ []))
+  pub equal-with-no-device :
+      guarded arenaLength baseS supS (line 0xE 0 (line 6 0x4000_0000 sceneS)) ≡ refused (row 13 (1 ∷ 6 ∷ []))
   -- no row compares tables with outputs
   pub table-in-data : validated (line 9 0x4000_0000 sceneS) ≡ accepted
   pub order : Ordered

@@ -14,7 +14,7 @@ use Rattle.desc.specs.Descriptor.{pageAddress, blockAddress}
 use Rattle.fields.specs.Named.{pick}
 use Rattle.layout.specs.declared.Window.{Window}
 use Rattle.verify_rows.proofs.Read.{held-block, page-read, block-read, no-leaf-row, no-block-row}
-use Rattle.verify_rows.specs.Verifying.{covered, within, wantedBlock}
+use Rattle.verify_rows.specs.Verifying.{slotAddress, windowHolds, wantedBlock}
 use Rattle.verify_rows.specs.Word.{readPage, readBlock, wantedLeaf, leafRow, blockRow}
 
 pub page-none :
@@ -35,8 +35,8 @@ device-read false x = refl
 
 pub device-none :
     (t d j : ℕ) (w : Window) →
-    d ≡ pick (within w (covered w j)) (deviceTo (covered w j)) 0 → blockRow t j d (wantedBlock w j) ≡ []
-device-none t d j w q = no-block-row t j d _ (ap decodedDevice q ∙ device-read (within w (covered w j)) (covered w j))
+    d ≡ pick (windowHolds w (slotAddress w j)) (deviceTo (slotAddress w j)) 0 → blockRow t j d (wantedBlock w j) ≡ []
+device-none t d j w q = no-block-row t j d _ (ap decodedDevice q ∙ device-read (windowHolds w (slotAddress w j)) (slotAddress w j))
 
 -- what lies within a length of a base is less than that far from it
 pub distance : (a base len : ℕ) → base ≤ a → ltb (a - base) len ≡ ltb a (base + len)

@@ -13,7 +13,7 @@ ghost use Rattle.layout.specs.Size.{entries, block};
 ghost use Rattle.layout.specs.Window.{l2Slot};
 ghost use Rattle.refusal.specs.Outcome.{outcomeOf};
 ghost use Rattle.refusal.specs.Table.{first, each};
-ghost use Rattle.verify_rows.specs.Verifying.{indices, baseRow, superRow, covered, within, wantedBlock, deviceRow, deviceRows};
+ghost use Rattle.verify_rows.specs.Verifying.{indices, baseRow, superRow, slotAddress, windowHolds, wantedBlock, deviceRow, deviceRows};
 
 // Table 4.
 pub fn verify_base(arena: &[u64], base: &[u8], pa: u64) -> Verdict
@@ -151,7 +151,7 @@ fn device_slot(arena: &[u64], table: u32, w: Window, j: usize) -> Verdict
 // The word that a device window has at a slot.
 fn emitted_block(w: Window, j: u64) -> u64
     requires { ⌜ j < entries ⌝ }
-    ensures { λ r. ⌜ r ≡ pick (within w (covered w j)) (deviceTo (covered w j)) 0 ⌝ }
+    ensures { λ r. ⌜ r ≡ pick (windowHolds w (slotAddress w j)) (deviceTo (slotAddress w j)) 0 ⌝ }
 {
     let a = covered(w, j);
     if is_within(w, a) {
@@ -177,14 +177,14 @@ fn wanted_block(w: Window, j: u64) -> DecodedBlock
 
 fn covered(w: Window, j: u64) -> u64
     requires { ⌜ j < entries ⌝ }
-    ensures { λ r. ⌜ r ≡ covered w j ⌝ }
+    ensures { λ r. ⌜ r ≡ slotAddress w j ⌝ }
 {
     w.ipa / Layout::L1_ENTRY_SIZE * Layout::L1_ENTRY_SIZE + j * Layout::BLOCK_SIZE
 }
 
 // Whether a window contains an address, without its end, which can leave 64 bits.
 fn is_within(w: Window, a: u64) -> bool
-    ensures { λ r. ⌜ r ≡ within w a ⌝ }
+    ensures { λ r. ⌜ r ≡ windowHolds w a ⌝ }
 {
     if a < w.ipa {
         return false;

@@ -89,16 +89,16 @@ superRow arena sup ipa pa exempt m =
     leafRow 5 j d m (readBlock d) (wantedLeaf (getD sup m 0) (blockAddress (pa + m * block)) exempt)
 
 -- slot j of a device window covers this address
-abbrev pub covered : Window → ℕ → ℕ
-covered w j = w .ipa / l1Span * l1Span + j * block
+abbrev pub slotAddress : Window → ℕ → ℕ
+slotAddress w j = w .ipa / l1Span * l1Span + j * block
 
-abbrev pub within : Window → ℕ → Bool
-within w a = leb (w .ipa) a && ltb a (w .ipa + w .span)
+abbrev pub windowHolds : Window → ℕ → Bool
+windowHolds w a = leb (w .ipa) a && ltb a (w .ipa + w .span)
 
 -- what a device window wants there: itself, execute never, if it contains the address
 abbrev pub wantedBlock : Window → ℕ → DecodedBlock
 wantedBlock w j =
-    let a = covered w j in pick (within w a) (Device (record { pa = blockAddress a; xn = true })) Nothing
+    let a = slotAddress w j in pick (windowHolds w a) (Device (record { pa = blockAddress a; xn = true })) Nothing
 
 -- device slot j: index j of the device's table
 unfoldable pub deviceRow : List ℕ → ℕ → Window → ℕ → List Row

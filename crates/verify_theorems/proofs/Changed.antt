@@ -22,7 +22,7 @@ use Rattle.verify_rows.proofs.Range.{everywhere}
 use Rattle.verify_rows.specs.Verifying.{word, range, indices, liveRow, liveAt, otherRow, otherRows, l1Rows, imageRows, dataRows, baseRow, pageRows, superRow, superRows, wantedBlock, deviceRow, deviceRows, encodingRows, verifyRows}
 use Rattle.verify_rows.specs.Word.{readPage, readBlock, row18, row19, spurious, wantedLeaf, leafRow, blockRow}
 use Rattle.verify_theorems.specs.Examples.{Wrong}
-use Rattle.verify_theorems.specs.Verified.{Verifies, stored}
+use Rattle.verify_theorems.specs.Verified.{Verifies, storedAt}
 use Rattle.verify_theorems.proofs.Sparse.{member, rising, sparse}
 use Rattle.verify_theorems.proofs.Stored.{stored-word}
 use Rattle.verify_theorems.proofs.Told.{halves, neither}
@@ -31,7 +31,7 @@ use Rattle.verify_theorems.proofs.Told.{halves, neither}
 
 abbrev pub put : List Wrong → List ℕ → List ℕ
 put [] arena = arena
-put (w ∷ ws) arena = stored (w .table) (w .index) (w .word) (put ws arena)
+put (w ∷ ws) arena = storedAt (w .table) (w .index) (w .word) (put ws arena)
 
 abbrev inWords : Wrong → Bool
 inWords w = leb 1 (w .table) && (leb (w .table) tableCount && ltb (w .index) entries)
@@ -54,7 +54,7 @@ found (w ∷ ws) t j rows = pick (at w t j) (rows (w .word)) (found ws t j rows)
 
 one :
     (arena : List ℕ) (w : Wrong) (t j : ℕ) → length arena ≡ arenaLength → inWords w ≡ true → 1 ≤ t → j < entries →
-    word (stored (w .table) (w .index) (w .word) arena) t j ≡ pick (at w t j) (w .word) (word arena t j)
+    word (storedAt (w .table) (w .index) (w .word) arena) t j ≡ pick (at w t j) (w .word) (word arena t j)
 one arena w t j long ok lo h =
     let lowest = halves (leb 1 (w .table)) _ ok in
     let highest = halves (leb (w .table) tableCount) _ (lowest .1) in

@@ -15,7 +15,7 @@ use Rattle.rows.specs.Rows.{row1, row2, row3, row4, row5, row6, row7, row8, row
 use Rattle.verify_theorems.proofs.Changed.{sorted, drawn, first-drawn}
 use Rattle.verify_theorems.proofs.LetsBy.{encoded-verifies}
 use Rattle.verify_theorems.proofs.Told.{halves}
-use Rattle.verify_theorems.specs.Examples.{Tabled, Wrong, wrong, unnamed, spare, leafless, faultOf, wrongs, imageS, apartS, verdict, ToldInOrder, Sound, SoundScenes, BeforeWords}
+use Rattle.verify_theorems.specs.Examples.{Tabled, Wrong, wrong, unnamed, spare, leafless, faultOf, wrongs, imageHighS, apartS, verdict, ToldInOrder, Sound, SoundScenes, BeforeWords}
 use Rattle.verify_theorems.specs.Verified.{Guarding, Verifies}
 use Rattle.verify_rows.specs.Verifying.{liveRow, l1Rows, encodingRows, verifyRows}
 use Rattle.verify_rows.specs.Word.{row18, row19, leafRow, blockRow}
@@ -78,12 +78,12 @@ unfolding layoutOf first flatMap row18 row19 leafRow blockRow
 examples arena withImage v w =
     record {
       row18 = alone-told sceneS arena v (unnamed 1 2 0x4000_2000) refl;
-      row19 = alone-told imageS withImage w (wrong 2 0 0 (row 19 [])) refl;
+      row19 = alone-told imageHighS withImage w (wrong 2 0 0 (row 19 [])) refl;
       row20 = alone-told sceneS arena v (leafless 4 1 1 0x5000_1000 2) refl;
       row21 = alone-told sceneS arena v (spare 3 7 1) refl;
       row22 = alone-told sceneS arena v (wrong 6 72 0 (row 22 [])) refl;
       other-table = alone-told sceneS arena v (wrong 1 2 0x4000_4003 (row 18 [])) refl;
-      other-block = alone-told imageS withImage w (wrong 2 0 0x0040_0001_4000_077D (row 19 [])) refl;
+      other-block = alone-told imageHighS withImage w (wrong 2 0 0x0040_0001_4000_077D (row 19 [])) refl;
       other-page = alone-told sceneS arena v (wrong 4 1 0x0040_0000_5000_277F (row 20 [])) refl;
     }
 
@@ -102,7 +102,7 @@ sound scene g =
 
 pub sound-scenes : SoundScenes
 unfolding layoutOf first flatMap eachFrom pairs row2 row3 row4 row5 row6 row7 row8 row9 row10 row13 row14 lengthRows mapRows pairRows windowRows refusalsAt guardRows
-sound-scenes = record { S = sound sceneS refl; with-image = sound imageS refl; apart = sound apartS refl }
+sound-scenes = record { S = sound sceneS refl; with-image = sound imageHighS refl; apart = sound apartS refl }
 
 pub before-words : BeforeWords
 unfolding layoutOf first flatMap eachFrom pairs row1 row2 row3 row4 row5 row6 row7 row8 row9 row10 lengthRows mapRows pairRows windowRows refusalsAt liveRow l1Rows encodingRows verifyRows row18

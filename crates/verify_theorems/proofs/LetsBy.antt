@@ -7,7 +7,7 @@ use native.Mathlib.Omega.{arith}
 use lib.Dec.{eqb}
 use lib.ListN.{length-set}
 use borrow.Author.Tests.{eqb-true}
-use Rattle.arena.specs.Encoded.{wordAt, stored as storedRuns, upperRuns, leafRuns, encoded}
+use Rattle.arena.specs.Encoded.{wordAt, storedAt as storedRuns, upperRuns, leafRuns, encoded}
 use Rattle.decode.specs.Decoded.{decodedTable, decodedDevice}
 use Rattle.fields.specs.Named.{pick}
 use Rattle.layout.specs.Layout.{layoutOf}
@@ -18,7 +18,7 @@ use Rattle.rows.specs.Examples.{baseS, supS, sceneS}
 use Rattle.rows.specs.Rows.{row2, row3, row4, row5, row6, row7, row8, row9, row10, row13, row14, lengthRows, mapRows, pairRows, windowRows, refusalsAt, guardRows}
 use Rattle.verify_rows.specs.Verifying.{word}
 use Rattle.verify_rows.specs.Word.{readPage, readBlock}
-use Rattle.verify_theorems.specs.Verified.{Guarding, Encoded, encodedWord, Kept, ReadAlike, EncodedVerifies, stored, LetsBy, LettingBy, SceneS}
+use Rattle.verify_theorems.specs.Verified.{Guarding, Encoded, encodedWord, Kept, ReadAlike, EncodedVerifies, storedAt, LetsBy, LettingBy, SceneS}
 use Rattle.verify_theorems.proofs.Stored.{stored-word}
 use Rattle.verify_theorems.proofs.Told.{halves}
 use Rattle.verify_theorems.proofs.Verified.{alike-verifies}
@@ -42,10 +42,10 @@ module _ (arena base sup : List ℕ) (l : Layout) (e : Encoded arena base sup l)
         devices = λ j h. ap decodedDevice (word-of 6 j (omega arith) h);
       }
 
-  -- a word stored at index i of table s, which is one of leaves
+  -- a word storedAt at index i of table s, which is one of leaves
   module _ (s i d : ℕ) (leaves : 3 < s) (to : s ≤ tableCount) (below : i < entries) where
     abbrev after : List ℕ
-    after = stored s i d arena
+    after = storedAt s i d arena
 
     abbrev Alike : {A : Type 0} → (ℕ → A) → ℕ → Type 0
     Alike read t = s ≡ t → read d ≡ read (encodedWord l base sup t i)
@@ -82,11 +82,11 @@ module _ (arena base sup : List ℕ) (l : Layout) (e : Encoded arena base sup l)
         }
 
   module _ (j d : ℕ) (h : j < entries) where
-    with-super : readBlock d ≡ readBlock (encodedWord l base sup 5 j) → ReadAlike (stored 5 j d arena) base sup l
+    with-super : readBlock d ≡ readBlock (encodedWord l base sup 5 j) → ReadAlike (storedAt 5 j d arena) base sup l
     with-super here =
         alike-after 5 j d (omega arith) (omega arith) h (λ q. absurd (omega (arith, q))) (λ q. here) (λ q. absurd (omega (arith, q)))
 
-    with-device : decodedDevice d ≡ decodedDevice (encodedWord l base sup 6 j) → ReadAlike (stored 6 j d arena) base sup l
+    with-device : decodedDevice d ≡ decodedDevice (encodedWord l base sup 6 j) → ReadAlike (storedAt 6 j d arena) base sup l
     with-device here =
         alike-after 6 j d (omega arith) (omega arith) h (λ q. absurd (omega (arith, q))) (λ q. absurd (omega (arith, q))) (λ q. here)
 

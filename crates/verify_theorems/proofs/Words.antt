@@ -22,7 +22,7 @@ use Rattle.layout.specs.declared.Layout.{Layout}
 use Rattle.layout.specs.declared.Window.{Window}
 use Rattle.target_word.proofs.Place.{in-4, in-5, in-6}
 use Rattle.verify_rows.proofs.Read.{held-block, page-read, block-read}
-use Rattle.verify_rows.specs.Verifying.{covered, within, wantedBlock}
+use Rattle.verify_rows.specs.Verifying.{slotAddress, windowHolds, wantedBlock}
 use Rattle.verify_rows.specs.Word.{readPage, readBlock, wantedLeaf}
 use Rattle.verify_theorems.specs.Verified.{encodedWord}
 
@@ -109,19 +109,19 @@ module _
       table = omega (arith, first)
 
       abbrev Past : Type 0
-      Past = w .ipa ≤ covered w j → w .ipa + w .span ≤ covered w j
+      Past = w .ipa ≤ slotAddress w j → w .ipa + w .span ≤ slotAddress w j
 
-      outside : Past → within w (covered w j) ≡ false
-      outside past = go (leb (w .ipa) (covered w j)) refl
+      outside : Past → windowHolds w (slotAddress w j) ≡ false
+      outside past = go (leb (w .ipa) (slotAddress w j)) refl
         where
-          go : (b : Bool) → leb (w .ipa) (covered w j) ≡ b → (b && ltb (covered w j) (w .ipa + w .span)) ≡ false
+          go : (b : Bool) → leb (w .ipa) (slotAddress w j) ≡ b → (b && ltb (slotAddress w j) (w .ipa + w .span)) ≡ false
           go true e = le-ltb _ _ (past (leb-true _ _ e))
           go false e = refl
 
       nothing : wordAt (deviceRun t w) (firstWord t + j) ≡ 0 → Past → Wanted
       nothing z past =
           ap decodedDevice (leaves j h ∙ z)
-          ∙ sym (ap (λ b. pick b (Device (record { pa = blockAddress (covered w j); xn = true })) NoBlock) (outside past))
+          ∙ sym (ap (λ b. pick b (Device (record { pa = blockAddress (slotAddress w j); xn = true })) NoBlock) (outside past))
 
       below : j < first-slot → Wanted
       below k = nothing (run-before j h (t - 1) (deviceRun t w) table k) (λ le. absurd (omega (arith, k, le)))
@@ -136,12 +136,12 @@ module _
       among : first-slot ≤ j → j < first-slot + w .span / block → Wanted
       among lo hi =
           let start = starts (omega (arith, lo, hi)) in
-          let place : w .ipa + (j - first-slot) * block ≡ covered w j = omega (arith, lo, start) in
-          let low : w .ipa ≤ covered w j = omega (arith, lo, start) in
-          let high : covered w j < w .ipa + w .span = omega (arith, hi, whole, start) in
+          let place : w .ipa + (j - first-slot) * block ≡ slotAddress w j = omega (arith, lo, start) in
+          let low : w .ipa ≤ slotAddress w j = omega (arith, lo, start) in
+          let high : slotAddress w j < w .ipa + w .span = omega (arith, hi, whole, start) in
           ap decodedDevice
           (leaves j h ∙ run-inside j h (t - 1) (deviceRun t w) table lo hi ∙ ap deviceTo place)
-          ∙ emitted-decodes .device (blockAddress (covered w j)) (held-block (covered w j))
+          ∙ emitted-decodes .device (blockAddress (slotAddress w j)) (held-block (slotAddress w j))
           ∙ sym (rw (le-leb _ _ low, lt-ltb _ _ high))
 
       pub device-wanted : Wanted

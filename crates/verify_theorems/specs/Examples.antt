@@ -9,7 +9,7 @@ use Rattle.refusal.specs.Table.{Row, row, Outcome, refused, first}
 use Rattle.rows.specs.Examples.{sceneS, baseS, supS, line}
 use Rattle.rows.specs.Faults.{Fault, fault, FirstTold}
 use Rattle.rows.specs.WithinRows.{imaged}
-use Rattle.verify_theorems.specs.Verified.{Guarding, Encoded, Verifies, stored}
+use Rattle.verify_theorems.specs.Verified.{Guarding, Encoded, Verifies, storedAt}
 use Rattle.verify_rows.specs.Verifying.{verifyRows}
 
 -- what verification tells of an arena, with S's maps
@@ -17,26 +17,26 @@ abbrev pub verdict : List ℕ → List ℕ → Outcome
 verdict scene arena = first (verifyRows arena baseS supS (layoutOf scene))
 
 -- S with an image
-abbrev pub imageS : List ℕ
-imageS = imaged 0x1_4000_0000 sceneS
+abbrev pub imageHighS : List ℕ
+imageHighS = imaged 0x1_4000_0000 sceneS
 
 -- S, and S with an image; first document 01's examples, then words in which another table or leaf is found
 pub record Examples (arena withImage : List ℕ) : Type 0 where
-  pub row18 : verdict sceneS (stored 1 2 0 arena) ≡ refused (row 18 (1 ∷ 2 ∷ 0 ∷ 0 ∷ 0x4000_2000 ∷ []))
+  pub row18 : verdict sceneS (storedAt 1 2 0 arena) ≡ refused (row 18 (1 ∷ 2 ∷ 0 ∷ 0 ∷ 0x4000_2000 ∷ []))
   pub row19 :
-      verdict imageS (stored 2 0 0 withImage)
+      verdict imageHighS (storedAt 2 0 0 withImage)
       ≡ refused (row 19 (0 ∷ 0 ∷ 0 ∷ 0 ∷ 0x1_4000_0000 ∷ []))
   pub row20 :
-      verdict sceneS (stored 4 1 0 arena) ≡ refused (row 20 (1 ∷ 0 ∷ 0 ∷ 0 ∷ 0 ∷ 1 ∷ 0x5000_1000 ∷ 2 ∷ []))
-  pub row21 : verdict sceneS (stored 3 7 1 arena) ≡ refused (row 21 (3 ∷ 7 ∷ 1 ∷ []))
-  pub row22 : verdict sceneS (stored 6 72 0 arena) ≡ refused (row 22 (72 ∷ 0 ∷ []))
+      verdict sceneS (storedAt 4 1 0 arena) ≡ refused (row 20 (1 ∷ 0 ∷ 0 ∷ 0 ∷ 0 ∷ 1 ∷ 0x5000_1000 ∷ 2 ∷ []))
+  pub row21 : verdict sceneS (storedAt 3 7 1 arena) ≡ refused (row 21 (3 ∷ 7 ∷ 1 ∷ []))
+  pub row22 : verdict sceneS (storedAt 6 72 0 arena) ≡ refused (row 22 (72 ∷ 0 ∷ []))
   pub other-table :
-      verdict sceneS (stored 1 2 0x4000_4003 arena) ≡ refused (row 18 (1 ∷ 2 ∷ 1 ∷ 0x4000_4000 ∷ 0x4000_2000 ∷ []))
+      verdict sceneS (storedAt 1 2 0x4000_4003 arena) ≡ refused (row 18 (1 ∷ 2 ∷ 1 ∷ 0x4000_4000 ∷ 0x4000_2000 ∷ []))
   pub other-block :
-      verdict imageS (stored 2 0 0x0040_0001_4000_077D withImage)
+      verdict imageHighS (storedAt 2 0 0x0040_0001_4000_077D withImage)
       ≡ refused (row 19 (1 ∷ 0x1_4000_0000 ∷ 1 ∷ 1 ∷ 0x1_4000_0000 ∷ []))
   pub other-page :
-      verdict sceneS (stored 4 1 0x0040_0000_5000_277F arena)
+      verdict sceneS (storedAt 4 1 0x0040_0000_5000_277F arena)
       ≡ refused (row 20 (1 ∷ 1 ∷ 0x5000_2000 ∷ 1 ∷ 1 ∷ 1 ∷ 0x5000_1000 ∷ 2 ∷ []))
 
 -- of any arenas that verify
@@ -44,7 +44,7 @@ abbrev pub Tabled : Type 0
 Tabled =
     (arena withImage : List ℕ) →
     Verifies arena baseS supS (layoutOf sceneS) →
-    Verifies withImage baseS supS (layoutOf imageS) → Examples arena withImage
+    Verifies withImage baseS supS (layoutOf imageHighS) → Examples arena withImage
 
 -- S with an image and two device blocks, and with windows that begin inside their 1 GiB: no part of the list goes by index
 abbrev pub apartS : List ℕ
@@ -61,7 +61,7 @@ abbrev pub wrong : ℕ → ℕ → ℕ → Row → Wrong
 wrong t j d r = record { table = t; index = j; word = d; draws = r }
 
 abbrev pub faultOf : Wrong → Fault (List ℕ)
-faultOf w = fault (stored (w .table) (w .index) (w .word)) (w .draws)
+faultOf w = fault (storedAt (w .table) (w .index) (w .word)) (w .draws)
 
 -- a word that names no table at pa; a word where none is wanted
 abbrev pub unnamed : ℕ → ℕ → ℕ → Wrong
@@ -120,7 +120,7 @@ pub record Sound (scene : List ℕ) : Type 0 where
 
 pub record SoundScenes : Type 0 where
   pub S : Sound sceneS
-  pub with-image : Sound imageS
+  pub with-image : Sound imageHighS
   pub apart : Sound apartS
 
 -- before the words come 1, 2 and 3, then `validate`; zeros are wrong from the first word on

@@ -60,15 +60,15 @@ EncodedVerifies =
     (arena base sup : List ℕ) (l : Layout) → Guarding base sup l → Encoded arena base sup l → Verifies arena base sup l
 
 -- another word at an index of a table
-abbrev pub stored : ℕ → ℕ → ℕ → List ℕ → List ℕ
-stored t j d arena = set arena (firstWord t + j) d
+abbrev pub storedAt : ℕ → ℕ → ℕ → List ℕ → List ℕ
+storedAt t j d arena = set arena (firstWord t + j) d
 
 -- 'It accepts a nonzero word that its decoder reads as nothing .. It ignores device access bits': an encoded arena with one other word,
 -- at index j of table 5 or 6
 pub record LetsBy (arena base sup : List ℕ) (l : Layout) (j d : ℕ) : Type 0 where
-  pub empty-super : encodedWord l base sup 5 j ≡ 0 → readBlock d ≡ NoLeaf → Verifies (stored 5 j d arena) base sup l
-  pub empty-device : encodedWord l base sup 6 j ≡ 0 → decodedDevice d ≡ NoBlock → Verifies (stored 6 j d arena) base sup l
-  pub device-access : decodedDevice d ≡ decodedDevice (encodedWord l base sup 6 j) → Verifies (stored 6 j d arena) base sup l
+  pub empty-super : encodedWord l base sup 5 j ≡ 0 → readBlock d ≡ NoLeaf → Verifies (storedAt 5 j d arena) base sup l
+  pub empty-device : encodedWord l base sup 6 j ≡ 0 → decodedDevice d ≡ NoBlock → Verifies (storedAt 6 j d arena) base sup l
+  pub device-access : decodedDevice d ≡ decodedDevice (encodedWord l base sup 6 j) → Verifies (storedAt 6 j d arena) base sup l
 
 abbrev pub LettingBy : Type 0
 LettingBy =
@@ -78,9 +78,9 @@ LettingBy =
 -- such words in scene S: its page table named from super slot 0, its data as a Normal block in device slot 49, and its device
 -- with access 00
 pub record InSceneS (arena : List ℕ) : Type 0 where
-  pub table-word : Verifies (stored 5 0 0x0000_0000_4000_3003 arena) baseS supS (layoutOf sceneS)
-  pub normal-block : Verifies (stored 6 0x49 0x0000_0000_5000_07FD arena) baseS supS (layoutOf sceneS)
-  pub no-access : Verifies (stored 6 0x48 0x0040_0000_0900_0401 arena) baseS supS (layoutOf sceneS)
+  pub table-word : Verifies (storedAt 5 0 0x0000_0000_4000_3003 arena) baseS supS (layoutOf sceneS)
+  pub normal-block : Verifies (storedAt 6 0x49 0x0000_0000_5000_07FD arena) baseS supS (layoutOf sceneS)
+  pub no-access : Verifies (storedAt 6 0x48 0x0040_0000_0900_0401 arena) baseS supS (layoutOf sceneS)
 
 abbrev pub SceneS : Type 0
 SceneS = (arena : List ℕ) → Encoded arena baseS supS (layoutOf sceneS) → InSceneS arena

@@ -9,15 +9,15 @@ use Rattle.walk.specs.Descent.{Words, index, fetch, nextTable}
 
 module _ (tables : List ℕ) (words others : Words) (x : ℕ) where
   -- the word of the table named, with so many levels left below
-  abbrev pub readOf : Words → ℕ → ℕ → ℕ
-  readOf ws left named = fetch 0 tables ws named (index left x)
+  abbrev pub wordRead : Words → ℕ → ℕ → ℕ
+  wordRead ws left named = fetch 0 tables ws named (index left x)
 
   -- from that table on, each word that is read of `words` is that of `others`
   abbrev pub AgreesFrom : ℕ → ℕ → Type 0
-  AgreesFrom zero named = readOf words 0 named ≡ readOf others 0 named
+  AgreesFrom zero named = wordRead words 0 named ≡ wordRead others 0 named
   AgreesFrom (suc left) named =
-      (readOf words (suc left) named ≡ readOf others (suc left) named)
-      × ((next : ℕ) → nextTable (readOf words (suc left) named) ≡ At next → AgreesFrom left next)
+      (wordRead words (suc left) named ≡ wordRead others (suc left) named)
+      × ((next : ℕ) → nextTable (wordRead words (suc left) named) ≡ At next → AgreesFrom left next)
 
   -- an address of 2^39 or more has none
   abbrev pub PathAgrees : Type 0

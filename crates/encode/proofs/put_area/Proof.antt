@@ -1,5 +1,4 @@
 -- `put_area` meets its contract: a word where the area is present, else none.
-use mathlib.Core.List.{[], _∷_}
 use borrow.Author.Needs.{needs}
 use Rattle.arena.proofs.Over.{over-placed, over-there, over-absent}
 use Rattle.arena.specs.Encoded.{one}
