@@ -31,8 +31,8 @@ pub record Reaches (l : Layout) (base sup : List ℕ) (words : Words) (x : ℕ) 
 abbrev pub Demand2 : Type 0
 Demand2 =
     (l : Layout) (base sup : List ℕ) (words : Words) →
-    first (guardRows boardLimit base sup l) ≡ accepted →
-    (x : ℕ) → PathAgrees (addressesOf l) words (target l base sup) x → Reaches l base sup words x
+    first (guardRows boardLimit base sup l) ≡ accepted → (x : ℕ) →
+    PathAgrees (addressesOf l) words (target l base sup) x → Reaches l base sup words x
 
 -- as over words that are the target at every place
 abbrev pub Demand2Whole : Type 0

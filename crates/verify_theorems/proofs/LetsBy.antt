@@ -7,7 +7,7 @@ use native.Mathlib.Omega.{arith}
 use lib.Dec.{eqb}
 use lib.ListN.{length-set}
 use borrow.Author.Tests.{eqb-true}
-use Rattle.arena.specs.Encoded.{wordAt, storedAt as storedRuns, upperRuns, leafRuns, encoded}
+use Rattle.arena.specs.Encoded.{wordAt, stored, upperRuns, leafRuns, encoded}
 use Rattle.decode.specs.Decoded.{decodedTable, decodedDevice}
 use Rattle.fields.specs.Named.{pick}
 use Rattle.layout.specs.Layout.{layoutOf}
@@ -42,7 +42,7 @@ module _ (arena base sup : List ℕ) (l : Layout) (e : Encoded arena base sup l)
         devices = λ j h. ap decodedDevice (word-of 6 j (omega arith) h);
       }
 
-  -- a word storedAt at index i of table s, which is one of leaves
+  -- a word stored at index i of table s, which is one of leaves
   module _ (s i d : ℕ) (leaves : 3 < s) (to : s ≤ tableCount) (below : i < entries) where
     abbrev after : List ℕ
     after = storedAt s i d arena
@@ -108,7 +108,7 @@ unfolding layoutOf first flatMap eachFrom pairs row2 row3 row4 row5 row6 row7 ro
 guarding-S = refl
 
 pub scene-S : SceneS
-unfolding layoutOf encoded storedRuns wordAt upperRuns leafRuns
+unfolding layoutOf encoded stored wordAt upperRuns leafRuns
 scene-S arena e =
     let by : (j d : ℕ) → j < entries → LetsBy arena baseS supS (layoutOf sceneS) j d =
     λ j d h. letting-by arena baseS supS (layoutOf sceneS) j d guarding-S e h in

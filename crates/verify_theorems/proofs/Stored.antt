@@ -1,4 +1,4 @@
--- A place of an arena in which one word was storedAt is read as that word, or as it was.
+-- A place of an arena in which one word was stored is read as that word, or as it was.
 use Prim.Native.Nat.{ℕ, _+_, _≤_, _<_}
 use mathlib.Core.Bool.{Bool, true, false, _&&_}
 use mathlib.Core.List.{List}
