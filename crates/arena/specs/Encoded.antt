@@ -98,7 +98,7 @@ leafRuns l base sup = pageRun l base ∷ superRun l sup ∷ deviceRun 6 (deviceW
 abbrev pub runsOf : Layout → List ℕ → List ℕ → List Run
 runsOf l base sup = upperRuns l ++ leafRuns l base sup
 
--- the tables of leaves alone are cleared, from table 4 on
+-- tables 4 and on alone are cleared
 abbrev pub cleared : ℕ → ℕ → ℕ
 cleared i old = pick (ltb 3 (tableOf i)) 0 old
 
