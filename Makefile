@@ -4,6 +4,8 @@ export HV_SRC ?= ../shared/docs/src
 # What the random inputs of make diff are drawn from.
 SEED ?= 1
 
+export TMPDIR := $(shell tools/scratch.sh)
+
 JUDGE = cargo run --quiet --release --offline --manifest-path oracle/Cargo.toml -p judge --
 TIMED = cargo run --quiet --profile timed --offline --manifest-path oracle/Cargo.toml -p judge --
 
