@@ -147,7 +147,8 @@ accepted-facts limit l e =
       devices = (checked 6 _ _ _ (passes l (r6 .0) 5 (omega arith)), tt);
       tables = all-map (λ t. row7 held t ≡ []) _ (nameable held) (tablesOf l) (each-none (row7 held) (tablesOf l) (r7 .0));
       frames = leb-false _ _ (test _ _ _ (r8 .0));
-      windows = all-map _ _ (within held) (windowsOf l) (all-both (λ w. row9 w ≡ []) (λ w. row10 held w ≡ []) (windowsOf l) in-slots in-reach);
+      windows = all-map _ _ (within held) (windowsOf l)
+          (all-both (λ w. row9 w ≡ []) (λ w. row10 held w ≡ []) (windowsOf l) in-slots in-reach);
       apart = pairs-map (λ w. row9 w ≡ []) _ _ apart (windowsOf l) in-slots (pairs-none pairRows (windowsOf l) (r11 .0));
     }
 

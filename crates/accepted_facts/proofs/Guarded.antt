@@ -53,7 +53,8 @@ guarded-facts limit base sup l e =
       sup-map = readable 2 sup (both (row2 sup) [] (r2 .1) .0) (both (eachFrom (row3 2) 0 sup) [] (codes .1) .0);
       layout = accepted-facts limit l (accept _ (valid .0));
       distinct =
-          pairs-map (λ t. Unit) _ Distinct (λ s t a b. distinct s t) (tablesOf l) (all-always _ (λ t. tt) (tablesOf l)) (pairs-none row13 (tablesOf l) (r13 .0));
+          pairs-map (λ t. Unit) _ Distinct (λ s t a b. distinct s t) (tablesOf l) (all-always _ (λ t. tt) (tablesOf l))
+          (pairs-none row13 (tablesOf l) (r13 .0));
       backed = backed (l .«sup_frames») sup (both (eachFrom (row14 (l .«sup_frames»)) 0 sup) [] (r13 .1) .0);
     }
 

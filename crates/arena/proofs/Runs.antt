@@ -57,7 +57,8 @@ module _ (j : ℕ) (h : j < entries) (k : ℕ) (r : Run) (t : r .table ≡ 1 + k
   pub run-inside : r .from ≤ j → j < r .from + r .count → wordAt r (k * entries + j) ≡ r .word (j - r .from)
   run-inside lo hi =
       let e = index-of k j h in
-      inside (r .table) (r .from) (r .count) (r .word) (k * entries + j) (table-of k j h ∙ sym t) (omega (arith, lo, e)) (omega (arith, hi, e))
+      inside (r .table) (r .from) (r .count) (r .word) (k * entries + j) (table-of k j h ∙ sym t) (omega (arith, lo, e))
+      (omega (arith, hi, e))
       ∙ ap (λ (n : ℕ). r .word (n - r .from)) e
 
 -- a word after a run makes it longer

@@ -108,7 +108,8 @@ module _ (frames : List (List ℕ)) (grants : List Grant) (dom m byte : ℕ) whe
       unfolding widestAt
       nothing e =
           ap first (of-owner (Domain o) owner)
-          ∙ denied grants dom m p (Domain o) (go (reaches grants dom m false (Domain o)) (reaches grants dom m true (Domain o)) (rw owner at e))
+          ∙ denied grants dom m p (Domain o)
+          (go (reaches grants dom m false (Domain o)) (reaches grants dom m true (Domain o)) (rw owner at e))
         where
           go : (r x : Bool) → widest r x ≡ 0 → r ≡ false
           go false x e = refl

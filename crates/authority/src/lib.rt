@@ -33,7 +33,8 @@ pub fn check_authorized_with(
     frames: &[[u32; 2]],
     grants: &[[u32; 4]],
 ) -> Verdict
-    ensures { λ r. ⌜ outcomeOf r ≡ first (authorityRows (now (frames .entry)) (map grantOf (now (grants .entry))) dom (now (leaves .entry))) ⌝ }
+    ensures { λ r. ⌜ outcomeOf r ≡ first
+        (authorityRows (now (frames .entry)) (map grantOf (now (grants .entry))) dom (now (leaves .entry))) ⌝ }
 {
     let readable = lent_rows::read_map(1, leaves);
     let Verdict::Accepted = readable else {
@@ -49,7 +50,8 @@ pub fn check_authorized_with(
 // Rows 23 and 24, of every entry. The pass that finds no frame has no branch to take, and an authorized map needs no other.
 fn all_reached(dom: u16, leaves: &[u8], frames: &[[u32; 2]], grants: &[[u32; 4]]) -> Verdict
     requires { ⌜ length (now leaves) ≤ entries ⌝ }
-    ensures { λ r. ⌜ outcomeOf r ≡ first (eachFrom (reachRows (now (frames .entry)) (map grantOf (now (grants .entry))) dom) 0 (now (leaves .entry))) ⌝ }
+    ensures { λ r. ⌜ outcomeOf r ≡ first
+        (eachFrom (reachRows (now (frames .entry)) (map grantOf (now (grants .entry))) dom) 0 (now (leaves .entry))) ⌝ }
 {
     let widest = widest_entries(dom, leaves.len(), frames, grants);
     if all_within(leaves, &widest) {
@@ -66,7 +68,8 @@ fn all_reached(dom: u16, leaves: &[u8], frames: &[[u32; 2]], grants: &[[u32; 4]]
 
 // Rows 23 and 24, of one entry, by the widest that its frame may have.
 fn reached(dom: u16, mfn: u32, entry: u8, widest: u8, frames: &[[u32; 2]]) -> Verdict
-    ensures { λ r. ⌜ ((grants : List Grant) → widest ≡ widestAt (now (frames .entry)) grants dom mfn → outcomeOf r ≡ first (reachRows (now (frames .entry)) grants dom mfn entry)) ⌝ }
+    ensures { λ r. ⌜ ((grants : List Grant) → widest ≡ widestAt (now (frames .entry)) grants dom mfn
+        → outcomeOf r ≡ first (reachRows (now (frames .entry)) grants dom mfn entry)) ⌝ }
 {
     if asked(entry) <= widest {
         return Verdict::Accepted;
@@ -102,7 +105,8 @@ fn unauthorized(dom: u16, mfn: u32, owner: Owner, perm: Perm) -> Verdict
 
 fn all_within(leaves: &[u8], widest: &[u8]) -> bool
     requires { ⌜ length (now leaves) ≤ length (now widest) ⌝ }
-    ensures { λ r. ⌜ (r ≡ true → (m : ℕ) → m < length (now (leaves .entry)) → asked (getD (now (leaves .entry)) m 0) ≤ getD (now (widest .entry)) m 0) ⌝ }
+    ensures { λ r. ⌜ (r ≡ true → (m : ℕ) → m < length (now (leaves .entry))
+        → asked (getD (now (leaves .entry)) m 0) ≤ getD (now (widest .entry)) m 0) ⌝ }
 {
     let mut within = true;
     for m in 0..leaves.len() {
@@ -173,7 +177,8 @@ fn lesser(a: usize, b: usize) -> usize
 
 // After one grant more, which takes nothing back.
 fn note(widest: &mut [u8], g: Grant, dom: u16, frames: &[[u32; 2]])
-    ensures { λ _. ⌜ ((m : ℕ) → m < length (now (widest .entry)) → getD (now (widest .exit)) m 0 ≡ larger (getD (now (widest .entry)) m 0) (widestBy (now (frames .entry)) dom m g)) ⌝ }
+    ensures { λ _. ⌜ ((m : ℕ) → m < length (now (widest .entry))
+        → getD (now (widest .exit)) m 0 ≡ larger (getD (now (widest .entry)) m 0) (widestBy (now (frames .entry)) dom m g)) ⌝ }
 {
     let frame = g.frame as usize;
     if frame < widest.len() {

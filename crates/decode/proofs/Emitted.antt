@@ -5,7 +5,8 @@ use mathlib.Core.Path.{_≡_, refl, subst, ap}
 use native.Mathlib.Omega.{arith}
 use lib.Dec.{eqb}
 use borrow.Author.Tests.{eq-eqb}
-use Rattle.desc.specs.Descriptor.{descriptorType, blockType, tableType, pageType, memAttr, s2ap, executeNever, xn, pageAddress, blockAddress}
+use Rattle.desc.specs.Descriptor.{descriptorType, blockType, tableType, pageType, memAttr, s2ap, executeNever, xn, pageAddress}
+use Rattle.desc.specs.Descriptor.{blockAddress}
 use Rattle.desc.specs.WordFields.{readWrite}
 use Rattle.desc.specs.Words.{s2apOf}
 use Rattle.desc.specs.Words.{tableWord, pageWord, blockWord, deviceWord, leafAccessXn}

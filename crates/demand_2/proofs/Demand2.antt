@@ -176,7 +176,8 @@ module _ (l : Layout) (base sup : List ℕ) (g : Guarded boardLimit base sup l) 
 
       named : Names-table (tableTo address) address
       named =
-          let n = all-at (λ t. t .present ≡ true → Nameable boardLimit t) (tablesOf l) k (tableIf 0 false 0) few (g .layout .tables) (present-at (tablesOf l) k (tableIf 0 false 0) few there) in
+          let n = all-at (λ t. t .present ≡ true → Nameable boardLimit t) (tablesOf l) k (tableIf 0 false 0) few (g .layout .tables)
+          (present-at (tablesOf l) k (tableIf 0 false 0) few there) in
           table-names address (record { below = omega (arith, n .below); aligned = n .aligned })
 
       in-blocks :
@@ -229,10 +230,12 @@ module _ (l : Layout) (base sup : List ℕ) (g : Guarded boardLimit base sup l) 
         (λ ne out. table-3 out ∙ ap (λ b. pick b e 0) (ne-eqb _ _ ne))
         (λ q out. table-3 out ∙ ap (λ b. pick b e 0) (eq-eqb _ _ q))
         (named 3 (omega arith) refl) (pageAt (l .«data_pa_base») base) table-4
-        (λ p h. page-entry (l .«data_pa_base» + p * page) (getD base p 0) (page-output (l .«data_pa_base») p (g .layout .data-pa) (w .output) h))
+        (λ p h. page-entry (l .«data_pa_base» + p * page) (getD base p 0)
+        (page-output (l .«data_pa_base») p (g .layout .data-pa) (w .output) h))
 
     -- no two have the slot
-    alone : (p q : Part) → (p .region .window .present ≡ true → q .region .window .present ≡ true → Apart (p .region .window) (q .region .window)) → In-slot p → areaHas (areaIn q) (l1Slot x) ≡ false
+    alone : (p q : Part) → (p .region .window .present ≡ true → q .region .window .present ≡ true
+        → Apart (p .region .window) (q .region .window)) → In-slot p → areaHas (areaIn q) (l1Slot x) ≡ false
     alone p q apart h = go (areaHas (areaIn q) (l1Slot x)) refl
       where
         go : (b : Bool) → areaHas (areaIn q) (l1Slot x) ≡ b → b ≡ false
@@ -253,7 +256,11 @@ module _ (l : Layout) (base sup : List ℕ) (g : Guarded boardLimit base sup l) 
             in-data,
             (
               in-blocks 4 (omega arith) refl (superRegion l sup) (superRun l sup) (λ e. super-blocks) (run-5 l base sup),
-              (in-device 5 (omega arith) refl (deviceWindow l) refl (devices .0) (g .layout .devices .0) (g .layout .lengths .0) (run-6 l base sup), tt),
+              (
+                in-device 5 (omega arith) refl (deviceWindow l) refl (devices .0) (g .layout .devices .0) (g .layout .lengths .0)
+                    (run-6 l base sup),
+                tt,
+              ),
             ),
           ),
         )

@@ -68,12 +68,14 @@ page-entry pa e o =
 pub block-entry : (pa e : ℕ) (exempt : Bool) → Output 21 pa → Entry BlockLeaf (leafFor e (blockTo pa exempt)) pa exempt e
 block-entry pa e exempt o =
     of-entry BlockLeaf (blockTo pa exempt) pa exempt
-    (λ p. subst (λ (n : ℕ). BlockLeaf (n + blockWord p exempt) pa (leafAccessXn p exempt)) (sym (block-whole pa o)) (block-leaf pa p exempt o)) e
+    (λ p. subst (λ (n : ℕ). BlockLeaf (n + blockWord p exempt) pa (leafAccessXn p exempt)) (sym (block-whole pa o))
+    (block-leaf pa p exempt o)) e
 
 pub image-entry : (pa : ℕ) → Output 21 pa → Entry BlockLeaf (imageTo pa) pa false (permCode Rx)
 image-entry pa o =
     mapped (leafAccessXn Rx false)
-    (subst (λ (n : ℕ). BlockLeaf (n + imageWord) pa (leafAccessXn Rx false)) (sym (block-whole pa o)) (block-leaf pa Rx false o)) (λ out. refl)
+    (subst (λ (n : ℕ). BlockLeaf (n + imageWord) pa (leafAccessXn Rx false)) (sym (block-whole pa o)) (block-leaf pa Rx false o))
+    (λ out. refl)
 
 pub device-entry : (pa : ℕ) → Output 21 pa → Entry BlockLeaf (deviceTo pa) pa false (permCode Rw)
 device-entry pa o =

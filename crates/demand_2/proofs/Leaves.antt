@@ -84,10 +84,14 @@ page-leaf pa p o =
     }
 
 block-fields : (pa : ℕ) (p : Perm) (e : Bool) → Output 21 pa → Fields (pa + blockWord p e) (leafAccessXn p e)
-block-fields pa Ro e o = record { flag = omega arith; can-read = omega arith; can-write = omega arith; never = omega arith; low = omega arith }
-block-fields pa Rw true o = record { flag = omega arith; can-read = omega arith; can-write = omega arith; never = omega arith; low = omega arith }
-block-fields pa Rw false o = record { flag = omega arith; can-read = omega arith; can-write = omega arith; never = omega arith; low = omega arith }
-block-fields pa Rx e o = record { flag = omega arith; can-read = omega arith; can-write = omega arith; never = omega arith; low = omega arith }
+block-fields pa Ro e o = record
+    { flag = omega arith; can-read = omega arith; can-write = omega arith; never = omega arith; low = omega arith }
+block-fields pa Rw true o = record
+    { flag = omega arith; can-read = omega arith; can-write = omega arith; never = omega arith; low = omega arith }
+block-fields pa Rw false o = record
+    { flag = omega arith; can-read = omega arith; can-write = omega arith; never = omega arith; low = omega arith }
+block-fields pa Rx e o = record
+    { flag = omega arith; can-read = omega arith; can-write = omega arith; never = omega arith; low = omega arith }
 
 block-type : (pa : ℕ) (p : Perm) (e : Bool) → Output 21 pa → descriptorType (pa + blockWord p e) ≡ blockType
 block-type pa Ro e o = omega arith

@@ -26,7 +26,8 @@ use Rattle.reach.specs.declared.Reached.the-variants.{At, Nothing}
 use Rattle.refusal.proofs.All.{all-map, all-both}
 use Rattle.refusal.specs.All.{All}
 use Rattle.refusal.specs.Table.{first, eachFrom, pairs}
-use Rattle.rows.specs.Rows.{row1, row2, row3, row4, row5, row6, row7, row8, row9, row10, row13, row14, lengthRows, mapRows, pairRows, windowRows, refusalsAt, guardRows, arenaGuardRows}
+use Rattle.rows.specs.Rows.{row1, row2, row3, row4, row5, row6, row7, row8, row9, row10, row13, row14, lengthRows, mapRows, pairRows}
+use Rattle.rows.specs.Rows.{windowRows, refusalsAt, guardRows, arenaGuardRows}
 use Rattle.window_reach.proofs.Contains.{Inside, inside}
 use Rattle.window_reach.specs.Granted.{Region, regionsOf, contains, reachAt, byEntry, grantedIn, grantedBy, granted}
 use Rattle.demand_2.specs.OutOfReach.{ByteOf, OutOfReach, TableHandedOut}
@@ -105,7 +106,8 @@ module _ (l : Layout) (base sup : List ℕ) (g : Guarded boardLimit base sup l) 
       nowhere x r (regionsOf l base sup) e
       (all-map (λ g. (g .window .present ≡ true → g .window .pa % page ≡ 0) × (liesIn t (g .window) ≡ false)) (Not-from x r)
       (λ g b. off x r t there (n there .aligned) byte (g .window) (b .0) (b .1)) (regionsOf l base sup)
-      (all-both (λ (g : Region). g .window .present ≡ true → g .window .pa % page ≡ 0) (λ (g : Region). liesIn t (g .window) ≡ false) (regionsOf l base sup) pages a))
+      (all-both (λ (g : Region). g .window .present ≡ true → g .window .pa % page ≡ 0) (λ (g : Region). liesIn t (g .window) ≡ false)
+      (regionsOf l base sup) pages a))
 
 pub out-of-reach : OutOfReach
 out-of-reach l base sup words e all apart x r walked =
@@ -113,8 +115,10 @@ out-of-reach l base sup words e all apart x r walked =
     let granted-at = sym (demand-2-whole l base sup words e all x .walks) ∙ walked in
     all-map (λ t. (t .present ≡ true → Nameable boardLimit t) × Clear l base sup g x r granted-at t) _
     (λ t b. no-byte l base sup g x r granted-at t (b .0) (b .1)) (tablesOf l)
-    (all-both (λ (t : Table). t .present ≡ true → Nameable boardLimit t) (Clear l base sup g x r granted-at) (tablesOf l) (g .layout .tables) apart)
+    (all-both (λ (t : Table). t .present ≡ true → Nameable boardLimit t) (Clear l base sup g x r granted-at) (tablesOf l)
+    (g .layout .tables) apart)
 
 pub table-handed-out : TableHandedOut
-unfolding layoutOf first flatMap eachFrom pairs row1 row2 row3 row4 row5 row6 row7 row8 row9 row10 row13 row14 lengthRows mapRows pairRows windowRows refusalsAt guardRows arenaGuardRows grantedBy firstWindow firstTable
+unfolding layoutOf first flatMap eachFrom pairs row1 row2 row3 row4 row5 row6 row7 row8 row9 row10 row13 row14 lengthRows mapRows pairRows
+    windowRows refusalsAt guardRows arenaGuardRows grantedBy firstWindow firstTable
 table-handed-out = record { lets-by = refl; reached = refl; told = refl }

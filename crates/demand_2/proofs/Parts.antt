@@ -70,7 +70,8 @@ module _ (x j : ℕ) (C : Reached → ℕ → Type 0) where
   seen-in [] old alone beside sees none = none
   seen-in (p ∷ ps) old alone beside sees none = go (has p) refl (seen-in ps old (alone .1) (beside .1) (sees .1) none)
     where
-      go : (b : Bool) → has p ≡ b → C (grantedBy (regionsIn ps) x) (lastAt (areasIn ps) j old) → C (grantedBy (regionsIn (p ∷ ps)) x) (lastAt (areasIn (p ∷ ps)) j old)
+      go : (b : Bool) → has p ≡ b → C (grantedBy (regionsIn ps) x) (lastAt (areasIn ps) j old)
+          → C (grantedBy (regionsIn (p ∷ ps)) x) (lastAt (areasIn (p ∷ ps)) j old)
       go true e later =
           let others = all-map (λ q. has p ≡ true → has q ≡ false) (λ q. has q ≡ false) (λ q f. f e) ps (alone .0) in
           let nothing = granted-none (regionsIn ps) x (others-none ps others (beside .1)) in

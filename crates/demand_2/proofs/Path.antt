@@ -48,7 +48,8 @@ module _ (tables : List ℕ) (words others : Words) (x : ℕ) where
       Finds tables others x left named d → Finds tables words x left named d
   found left named d e f out = whatever words others named (index left x) tables 0 out e ∙ f out
 
-  module _ (left named d t : ℕ) (p : AgreesFrom tables words others x (suc left) named) (f : Finds tables others x (suc left) named d) (n : Names-table d t) where
+  module _ (left named d t : ℕ) (p : AgreesFrom tables words others x (suc left) named) (f : Finds tables others x (suc left) named d)
+      (n : Names-table d t) where
     on : AgreesFrom tables words others x left t
     on = p .1 t (ap nextTable (p .0 ∙ f 0) ∙ n .decodes)
 

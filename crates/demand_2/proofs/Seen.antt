@@ -84,7 +84,8 @@ module _ (tables : List ℕ) (words : Words) (x : ℕ) where
         let stop : descend tables (λ left. words) 2 root x ≡ Leaf 2 e = rw (f 0, n .decodes, g 0) (stop-block e (b .type) _) in
         rw (lt-ltb _ _ low) (ap (reading x) stop ∙ ap (leafReach (x % block)) (b .decodes))
     walk-seen r (page3 d t e u w pa a f n g o h p) =
-        let stop : descend tables (λ left. words) 2 root x ≡ Leaf 3 w = rw (f 0, n .decodes, g 0, o .decodes, h 0) (stop-page w (p .type)) in
+        let stop : descend tables (λ left. words) 2 root x ≡ Leaf 3 w =
+        rw (f 0, n .decodes, g 0, o .decodes, h 0) (stop-page w (p .type)) in
         rw (lt-ltb _ _ low) (ap (reading x) stop ∙ ap (leafReach (x % page)) (p .decodes))
 
   module _ (low : x < inputLimit) (m : Machine) (c : Access) where
@@ -101,5 +102,17 @@ module _ (tables : List ℕ) (words : Words) (x : ℕ) where
         rw (lt-ltb _ _ low, f (out 2 root), n .type, n .address, g (out 1 t), b .type, b .address, within-block x)
         (b .allows (m .xnx) c (pa + x % block))
     manual-seen r (page3 d t e u w pa a f n g o h p) =
-        rw (lt-ltb _ _ low, f (out 2 root), n .type, n .address, g (out 1 t), o .type, o .address, h (out 0 u), p .type, p .address, within-page x)
+        rw (
+          lt-ltb _ _ low,
+          f (out 2 root),
+          n .type,
+          n .address,
+          g (out 1 t),
+          o .type,
+          o .address,
+          h (out 0 u),
+          p .type,
+          p .address,
+          within-page x,
+        )
         (p .allows (m .xnx) c (pa + x % page))

@@ -19,7 +19,8 @@ use Rattle.demand_2.proofs.Demand2.{reaches-whole}
 module _ (words : Words) (all : (i : ℕ) → i < arenaLength → words i ≡ target S baseS supS i) where
   walked : (x : ℕ) → walkOf (addressesOf S) (λ left. words) x ≡ granted S baseS supS x
   walked x =
-      reaches-whole S baseS supS words (arena-guarded-facts boardLimit (replicate arenaLength 0) baseS supS S (Rows.examples .S) .1) all x .walks
+      reaches-whole S baseS supS words
+      (arena-guarded-facts boardLimit (replicate arenaLength 0) baseS supS S (Rows.examples .S) .1) all x .walks
 
   walks-of-S : WalksOfS words
   unfolding layoutOf grantedBy

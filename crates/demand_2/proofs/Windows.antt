@@ -102,7 +102,8 @@ module _ (tables : List ℕ) (words : Words) (x : ℕ) where
               subst (Seen tables words x) (sym (by-piece ∙ none (r .window .pa + away))) (nothing (λ out. f out ∙ z))
           go (mapped a leaf says) f =
               let sum : r .window .pa + away / block * block + x % block ≡ r .window .pa + away =
-              let o = block-offset ipa (r .window .span) x (within .below) (within .inside) aligned whole low same (i .from) in omega (arith, o) in
+              let o = block-offset ipa (r .window .span) x (within .below) (within .inside) aligned whole low same (i .from) in
+              omega (arith, o) in
               subst (Seen tables words x) (ap (λ (n : ℕ). reachAt n a) sum ∙ sym (by-piece ∙ says (r .window .pa + away)))
               (block2 d t (word (away / block)) (r .window .pa + away / block * block) a at1 names f leaf)
 
@@ -113,7 +114,8 @@ module _ (tables : List ℕ) (words : Words) (x : ℕ) where
           go false c p q = nothing (before (leb-false _ _ p))
           go true false p q = nothing (past (ltb-false _ _ q))
           go true true p q =
-              let b = block-back ipa (r .window .span) x (within .below) (within .inside) aligned whole low same (leb-true _ _ p) (ltb-true _ _ q) in
+              let b = block-back ipa (r .window .span) x (within .below) (within .inside) aligned whole low same (leb-true _ _ p)
+              (ltb-true _ _ q) in
               absurd (false≢true (sym e ∙ contained (r .window) x (record { there = here; from = b .0; before = b .1 })))
 
       pub block-window : Seen tables words x (In x r)
@@ -150,15 +152,18 @@ module _ (tables : List ℕ) (words : Words) (x : ℕ) where
         where
           there : l2Slot first ≡ l2Slot x
           there =
-              let at = block-from first (r .window .span) x (within .below) (within .inside) aligned multiple low same (i .from) (i .before) in
+              let at = block-from first (r .window .span) x (within .below) (within .inside) aligned multiple low same (i .from)
+              (i .before) in
               page-block first x (r .window .span) at (i .before) whole
 
           by-piece : grantedIn r x ≡ byEntry (r .window .pa + (x - first)) (r .exempt) (r .entry (index 0 x))
           by-piece =
               ap (λ (k : ℕ). byEntry (r .window .pa + (x - first)) (r .exempt) (r .entry ((x - first) / k))) pieces
-              ∙ ap (λ (k : ℕ). byEntry (r .window .pa + (x - first)) (r .exempt) (r .entry k)) (page-piece first x (r .window .span) aligned (i .from) (i .before) whole)
+              ∙ ap (λ (k : ℕ). byEntry (r .window .pa + (x - first)) (r .exempt) (r .entry k))
+              (page-piece first x (r .window .span) aligned (i .from) (i .before) whole)
 
-          go : Entry PageLeaf (word (index 0 x)) (r .window .pa + index 0 x * page) (r .exempt) (r .entry (index 0 x)) → Seen tables words x (grantedIn r x)
+          go : Entry PageLeaf (word (index 0 x)) (r .window .pa + index 0 x * page) (r .exempt) (r .entry (index 0 x))
+              → Seen tables words x (grantedIn r x)
           go (unmapped z none) =
               subst (Seen tables words x) (sym (by-piece ∙ none (r .window .pa + (x - first))))
               (blank3 d t e u at1 names (at2 there) names2 (λ out. at3 out ∙ z))
@@ -173,7 +178,8 @@ module _ (tables : List ℕ) (words : Words) (x : ℕ) where
         where
           elsewhere : l2Slot first ≡ l2Slot x → ⊥
           elsewhere q =
-              let b = block-back first (r .window .span) x (within .below) (within .inside) aligned multiple low same (omega (arith, q)) (omega (arith, q, whole)) in
+              let b = block-back first (r .window .span) x (within .below) (within .inside) aligned multiple low same (omega (arith, q))
+              (omega (arith, q, whole)) in
               false≢true (sym f ∙ contained (r .window) x (record { there = here; from = b .0; before = b .1 }))
 
       pub page-window : Seen tables words x (In x r)

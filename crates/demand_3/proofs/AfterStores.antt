@@ -94,7 +94,9 @@ module _ (k : ℕ) (old : List ℕ) (s : Source) (fits : k < stepCount) where
           getD (set words (placeOf k) (storedBy (s .layout) base sup k)) i 0 ≡ wordAfter (suc k) old s i
       one-more i b = go (ltb k halfway) refl
         where
-          at : (place word : ℕ) → (place ≡ i → word ≡ wordAfter (suc k) old s i) → ((i ≡ place → ⊥) → wordAfter k old s i ≡ wordAfter (suc k) old s i) → getD (set words place word) i 0 ≡ wordAfter (suc k) old s i
+          at : (place word : ℕ) → (place ≡ i → word ≡ wordAfter (suc k) old s i)
+              → ((i ≡ place → ⊥) → wordAfter k old s i ≡ wordAfter (suc k) old s i)
+              → getD (set words place word) i 0 ≡ wordAfter (suc k) old s i
           at place word hit miss = choose (eqb i place) refl
             where
               choose : (c : Bool) → eqb i place ≡ c → getD (set words place word) i 0 ≡ wordAfter (suc k) old s i
@@ -104,7 +106,9 @@ module _ (k : ℕ) (old : List ℕ) (s : Source) (fits : k < stepCount) where
                   (getD-set-same words i word 0 (omega (arith, long)) ∙ hit (sym p))
               choose false e = let ne = eqb-false _ _ e in getD-set-other words place i word 0 ne ∙ here i b ∙ miss ne
 
-          go : (c : Bool) → ltb k halfway ≡ c → getD (set words (pick c k (stepCount - 1 - k)) (pick c 0 (target (s .layout) base sup (stepCount - 1 - k)))) i 0 ≡ wordAfter (suc k) old s i
+          go : (c : Bool) → ltb k halfway ≡ c
+              → getD (set words (pick c k (stepCount - 1 - k)) (pick c 0 (target (s .layout) base sup (stepCount - 1 - k)))) i 0
+              ≡ wordAfter (suc k) old s i
           go true e =
               let h = ltb-true _ _ e in
               at k 0 (λ p. sym (zeroed (suc k) old s i h (omega (arith, p)))) (next-zero k old s fits i h)

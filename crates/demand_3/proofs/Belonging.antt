@@ -97,7 +97,8 @@ onward (s ∷ steps) c alone (suc n) = go (answered c s) refl (onward steps (ste
         on
         (omega arith)
 
-module _ (words : List ℕ) (before idle : List Step) (zeroth : Step) (rest later : List Step) (u : Update words before idle zeroth rest) where
+module _ (words : List ℕ) (before idle : List Step) (zeroth : Step) (rest later : List Step)
+    (u : Update words before idle zeroth rest) where
   abbrev c₀ : Cut
   c₀ = cutAfter words before (length before)
 

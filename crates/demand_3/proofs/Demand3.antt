@@ -57,7 +57,8 @@ module _ (tables words : List ℕ) (k : ℕ) (old : List ℕ) (s : Source) (b : 
   all-target e i h = b .word i h ∙ stored k old s i (omega (arith, e)) (omega (arith, e))
 
   -- the words over which a reader answers as granted
-  module _ {A : Type 0} (r : Reader A) (law : Lawful r) (whole : Words) (x : ℕ) (is : (i : ℕ) → i < arenaLength → whole i ≡ targetFrom s i) where
+  module _ {A : Type 0} (r : Reader A) (law : Lawful r) (whole : Words) (x : ℕ)
+      (is : (i : ℕ) → i < arenaLength → whole i ≡ targetFrom s i) where
     granting : r .gives tables (λ n. whole) x ≡ r .reaching (grantedFrom s x)
     granting =
         let l = s .layout in
@@ -115,7 +116,8 @@ module _
         Either (r .gives tables (λ n. wordsOf (at n)) x) (r .reaching (grantedFrom source x)) (r .nothing)
     new-or-nothing h =
         towards (granting tables (at 0) (k 0) old source (begun-from 0 (omega arith)) r law (targetFrom source) x (λ i b. refl))
-        (law .torn tables (λ n. wordsOf (at n)) (targetFrom source) x (λ n b. torn-new tables (at n) (k n) old source (begun-from n b) (h n b)))
+        (law .torn tables (λ n. wordsOf (at n)) (targetFrom source) x
+        (λ n b. torn-new tables (at n) (k n) old source (begun-from n b) (h n b)))
       where
         begun-from : (n : ℕ) → n < 3 → Begun tables (at n) (k n) old source
         begun-from n b = begun-at n b (h n b)

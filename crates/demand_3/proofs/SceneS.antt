@@ -15,7 +15,8 @@ use Rattle.reach.specs.declared.Reached.the-variants.{Nothing}
 use Rattle.refusal.specs.Table.{accepted, first, eachFrom, pairs}
 use Rattle.rows.proofs.Examples as Rows
 use Rattle.rows.specs.Examples.{baseS, supS}
-use Rattle.rows.specs.Rows.{row1, row2, row3, row4, row5, row6, row7, row8, row9, row10, row13, row14, lengthRows, mapRows, pairRows, windowRows, refusalsAt, guardRows, arenaGuardRows}
+use Rattle.rows.specs.Rows.{row1, row2, row3, row4, row5, row6, row7, row8, row9, row10, row13, row14, lengthRows, mapRows, pairRows}
+use Rattle.rows.specs.Rows.{windowRows, refusalsAt, guardRows, arenaGuardRows}
 use Rattle.update.specs.Step.{halfway, row26, stepRows}
 use Rattle.demand_2.specs.Demand2.{addressesOf}
 use Rattle.demand_2.specs.Tabled.{S, reach}
@@ -32,7 +33,8 @@ unfolding filled started onward placedAll placed counts owns putIn conflicts row
 fills = refl
 
 answers : AnswersS
-unfolding layoutOf first flatMap eachFrom pairs row1 row2 row3 row4 row5 row6 row7 row8 row9 row10 row13 row14 lengthRows mapRows pairRows windowRows refusalsAt guardRows arenaGuardRows row26 stepRows
+unfolding layoutOf first flatMap eachFrom pairs row1 row2 row3 row4 row5 row6 row7 row8 row9 row10 row13 row14 lengthRows mapRows pairRows
+    windowRows refusalsAt guardRows arenaGuardRows row26 stepRows
 answers = record { past-last = refl; last-step = refl; fourteen-first = refl }
 
 from-S : FilledFrom sourceS baseS supS
@@ -50,7 +52,8 @@ granted-S : grantedFrom sourceS 0x8000_1234 ≡ reach 0x5000_1234 Rw true
 unfolding layoutOf grantedBy
 granted-S =
     sym
-    (same-granted S baseS (mapsOf sourceS .base) supS (mapsOf sourceS .sup) (base-entries sourceS baseS supS from-S) (sup-entries sourceS baseS supS from-S) 0x8000_1234)
+    (same-granted S baseS (mapsOf sourceS .base) supS (mapsOf sourceS .sup) (base-entries sourceS baseS supS from-S)
+    (sup-entries sourceS baseS supS from-S) 0x8000_1234)
     ∙ refl
 
 module _ (words : List ℕ) (long : length words ≡ arenaLength) where

@@ -19,8 +19,8 @@ storesOf c (s ∷ ss) = counting (answered c s) (storesOf (stepped c s) ss)
 abbrev pub NoneStores : Cut → List Step → Type 0
 NoneStores c steps = EachStep (λ d s. answered d s ≡ accepted → ⊥) c steps
 
--- an update in a list of steps: its step 0 stores; none before it does, back to an earlier one or to the list's start; and of those after it
--- none that stores has number 0
+-- an update in a list of steps: its step 0 stores; none before it does, back to an earlier one or to the list's start; and of those after
+-- it none that stores has number 0
 module _ (words : List ℕ) (before idle : List Step) (zeroth : Step) (rest : List Step) where
   abbrev pub found : Cut
   found = cutAfter words (before ++ idle) (length (before ++ idle))

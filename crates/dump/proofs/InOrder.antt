@@ -18,7 +18,8 @@ same-texts f g k (suc n) h =
 none-later : (line : List ℕ) (k n : ℕ) → inOrder (λ i. alone i line) (suc k) n ≡ []
 unfolding inOrder
 none-later line k zero = refl
-none-later line k (suc n) = let later : eqb (suc k) 0 ≡ false = ne-eqb (suc k) 0 (λ e. omega (arith, e)) in rw later (none-later line (suc k) n)
+none-later line k (suc n) = let later : eqb (suc k) 0
+    ≡ false = ne-eqb (suc k) 0 (λ e. omega (arith, e)) in rw later (none-later line (suc k) n)
 
 -- the line that stands for the whole, before as many pieces without any
 pub alone-all : (line : List ℕ) (n : ℕ) → 0 < n → inOrder (λ i. alone i line) 0 n ≡ line

@@ -25,7 +25,8 @@ pub struct Dump {
 impl Dump {
     // Of a scene's numbers and maps; `said` is whether every line said something.
     pub fn of(said: bool, numbers: &[u64; Layout::NUMBERS], base: &[u8], sup: &[u8]) -> Self
-        ensures { λ r. ⌜ pieces (r .answer) (r .words) ≡ printedRead (readOf said (scene (now (numbers .entry)) (now (base .entry)) (now (sup .entry)))) ⌝ }
+        ensures { λ r. ⌜ pieces (r .answer) (r .words)
+            ≡ printedRead (readOf said (scene (now (numbers .entry)) (now (base .entry)) (now (sup .entry)))) ⌝ }
     {
         if said {
             return Self::encoded(numbers, base, sup);

@@ -7,18 +7,23 @@ use Rattle.layout.specs.Layout.{layoutOf}
 use Rattle.printed.specs.Line.{badLine, decimal, refusedLine}
 use Rattle.printed.specs.Word.{wordLine}
 use Rattle.refusal.specs.Table.{first, eachFrom, pairs}
-use Rattle.rows.specs.Rows.{row2, row3, row4, row5, row6, row7, row8, row9, row10, row13, row14, lengthRows, mapRows, pairRows, windowRows, refusalsAt, guardRows}
+use Rattle.rows.specs.Rows.{row2, row3, row4, row5, row6, row7, row8, row9, row10, row13, row14, lengthRows, mapRows, pairRows, windowRows}
+use Rattle.rows.specs.Rows.{refusalsAt, guardRows}
 use Rattle.scene.specs.Scene.{withField}
 use Rattle.scene_line.specs.Line.{lineOf, saidAfter, said, firstSpace, numberOf, digitOf}
 use Rattle.scene_text.specs.Text.{readFrom, linesOf}
 use Rattle.dump_theorems.specs.Examples.{SceneS, Examples}
 
 pub scene-S : SceneS
-unfolding dump printedOf inOrder lineAt wordLine badLine decimal refusedLine readFrom linesOf lineOf saidAfter said firstSpace numberOf digitOf withField layoutOf first flatMap eachFrom pairs row2 row3 row4 row5 row6 row7 row8 row9 row10 row13 row14 lengthRows mapRows pairRows windowRows refusalsAt guardRows encoded stored wordAt upperRuns leafRuns
+unfolding dump printedOf inOrder lineAt wordLine badLine decimal refusedLine readFrom linesOf lineOf saidAfter said firstSpace numberOf
+    digitOf withField layoutOf first flatMap eachFrom pairs row2 row3 row4 row5 row6 row7 row8 row9 row10 row13 row14 lengthRows mapRows
+    pairRows windowRows refusalsAt guardRows encoded stored wordAt upperRuns leafRuns
 scene-S = refl
 
 pub examples : Examples
-unfolding dump printedOf inOrder lineAt wordLine badLine decimal refusedLine readFrom linesOf lineOf saidAfter said firstSpace numberOf digitOf withField layoutOf first flatMap eachFrom pairs row2 row3 row4 row5 row6 row7 row8 row9 row10 row13 row14 lengthRows mapRows pairRows windowRows refusalsAt guardRows encoded stored wordAt upperRuns leafRuns
+unfolding dump printedOf inOrder lineAt wordLine badLine decimal refusedLine readFrom linesOf lineOf saidAfter said firstSpace numberOf
+    digitOf withField layoutOf first flatMap eachFrom pairs row2 row3 row4 row5 row6 row7 row8 row9 row10 row13 row14 lengthRows mapRows
+    pairRows windowRows refusalsAt guardRows encoded stored wordAt upperRuns leafRuns
 examples =
     record {
       empty = refl;

@@ -7,7 +7,8 @@ ghost use Prim.Native.Nat.{ℕ, _+_, _*_, _/_, _≤_, _<_};
 ghost use mathlib.Core.List.{[], _∷_, map};
 ghost use mathlib.Core.Path.{_≡_};
 ghost use lib.ListN.{length, getD};
-ghost use Rattle.arena.specs.Encoded.{run, one, stored, pageAt, superAt, superRun, deviceRun, imageRun, areaRun, upperRuns, leafRuns, cleared, encoded};
+ghost use Rattle.arena.specs.Encoded.{run, one, stored, pageAt, superAt, superRun, deviceRun, imageRun, areaRun, upperRuns, leafRuns};
+ghost use Rattle.arena.specs.Encoded.{cleared, encoded};
 ghost use Rattle.arena.specs.Over.{Over};
 ghost use Rattle.encode.specs.Encoding.{Encoding};
 ghost use Rattle.encode.specs.Fits.{SupersFit, DeviceFits};
@@ -155,7 +156,8 @@ fn put_supers(arena: &mut [u64], sup: &[u8], from: usize, pa: u64, exempt: bool)
     requires { ⌜ length (now sup) ≤ entries ⌝ }
     requires { ⌜ from < entries ⌝ }
     requires { ⌜ ((p : ℕ) → p < length (now sup) → (getD (now sup) p 0 ≡ 0 → ⊥) → from + p < entries) ⌝ }
-    ensures { λ _. ⌜ Over (stored (run 5 from (length (now (sup .entry))) (superAt pa exempt (now (sup .entry))) ∷ [])) (now (arena .entry)) (now (arena .exit)) ⌝ }
+    ensures { λ _. ⌜ Over (stored (run 5 from (length (now (sup .entry))) (superAt pa exempt (now (sup .entry))) ∷ [])) (now (arena .entry))
+        (now (arena .exit)) ⌝ }
 {
     for m in 0..sup.len() {
         put(

@@ -78,7 +78,8 @@ fn inexact(dom: u16, m: usize, mapped: u8, expected: u8) -> Verdict
 
 fn all_same(leaves: &[u8], wanted: &[u8]) -> bool
     requires { ⌜ length (now leaves) ≤ length (now wanted) ⌝ }
-    ensures { λ r. ⌜ (r ≡ true → (m : ℕ) → m < length (now (leaves .entry)) → getD (now (leaves .entry)) m 0 ≡ getD (now (wanted .entry)) m 0) ⌝ }
+    ensures { λ r. ⌜ (r ≡ true → (m : ℕ) → m < length (now (leaves .entry))
+        → getD (now (leaves .entry)) m 0 ≡ getD (now (wanted .entry)) m 0) ⌝ }
 {
     let mut same = true;
     for m in 0..leaves.len() {
@@ -114,7 +115,8 @@ pub fn unmapped() -> [u8; Layout::ENTRIES]
 
 // The entries after one edge more.
 pub fn note(wanted: &mut [u8], e: Edge, dom: u16, span: Span, frames: &[[u32; 2]])
-    ensures { λ _. ⌜ ((m : ℕ) → m < length (now (wanted .entry)) → getD (now (wanted .exit)) m 0 ≡ afterEdge (now (frames .entry)) dom span m (getD (now (wanted .entry)) m 0) e) ⌝ }
+    ensures { λ _. ⌜ ((m : ℕ) → m < length (now (wanted .entry))
+        → getD (now (wanted .exit)) m 0 ≡ afterEdge (now (frames .entry)) dom span m (getD (now (wanted .entry)) m 0) e) ⌝ }
 {
     let child = e.child as usize;
     if child < wanted.len() {

@@ -12,7 +12,8 @@ use mir.Val.{Val}
 use base.Fml.{GName, Fml, fsep, flft, flent}
 use prog.Wp.{Heap}
 use ghost.Atoms.{Atoms}
-use types.Kit.{Goal, Soaks, Given, Item, Seq, ‵, _⊛_, some, later, _$_, move, use1, use3, split, pick, rewrite, fsplit, fjoin, fpick, fpack, feqL, feqI, await}
+use types.Kit.{Goal, Soaks, Given, Item, Seq, ‵, _⊛_, some, later, _$_, move, use1, use3, split, pick, rewrite, fsplit, fjoin, fpick}
+use types.Kit.{fpack, feqL, feqI, await}
 use types.SemTy.{cells, Arr}
 use types.Share.{arr-parts}
 use types.Tokens.{lft-new, lft-end}
@@ -42,19 +43,25 @@ module _ (R : RattleType) (n l : ℕ) where
   abbrev Lying : List (R .Denot) → List Val → Fml
   Lying xs vs = fsep (Local vs) (Array R n .own xs vs)
 
-  module _ {M : Type 1} {𝓤 : URA M} {H : Heap 𝓤} {A : Atoms 𝓤} {K : Type 0} {W : Given 𝓤 H A} {Γ : List (Item 𝓤)} {G : Goal 𝓤 H} (t : K) (s : Soaks G) where
-    pub lends-local : (ℓ : Lifetime) (xs : List (R .Denot)) (vs : List Val) → Single (R .mir) → Room R n → Makes 𝓤 H A R (Is R) → Is (Array R n) xs vs
-        → ((ν : ℕ) (δ : GName) → Seq K W (‵ (flft (ν ∷ []) fullShare) ∷ ‵ (MutSlice ℓ (ν ∷ []) R .own (elements δ xs) (sliceVal (l, 0) n ∷ [])) ∷ ‵ (Kept ν δ) ∷ Γ) G)
+  module _ {M : Type 1} {𝓤 : URA M} {H : Heap 𝓤} {A : Atoms 𝓤} {K : Type 0} {W : Given 𝓤 H A} {Γ : List (Item 𝓤)} {G : Goal 𝓤 H} (t : K)
+      (s : Soaks G) where
+    pub lends-local : (ℓ : Lifetime) (xs : List (R .Denot)) (vs : List Val) → Single (R .mir) → Room R n → Makes 𝓤 H A R (Is R)
+        → Is (Array R n) xs vs
+        → ((ν : ℕ) (δ : GName) → Seq K W
+        (‵ (flft (ν ∷ []) fullShare) ∷ ‵ (MutSlice ℓ (ν ∷ []) R .own (elements δ xs) (sliceVal (l, 0) n ∷ [])) ∷ ‵ (Kept ν δ) ∷ Γ) G)
         → Seq K W (‵ (Local vs) ∷ Γ) G
     unfolding partOf
     lends-local ℓ xs vs one room makes is k =
-        owned t (Array R n) (Is (Array R n)) (array-makes 𝓤 H A W R makes n) xs vs is $ move t (1 ∷ 0 ∷ []) $ fjoin t $ fpack t (List Val) (Lying xs) vs $
+        owned t (Array R n) (Is (Array R n)) (array-makes 𝓤 H A W R makes n) xs vs is $ move t (1 ∷ 0 ∷ []) $ fjoin t $
+        fpack t (List Val) (Lying xs) vs $
         use1 W (‵ (arr-parts (shares R) n .part fullShare xs l 0)) (array-apart 𝓤 H A W R fullShare one n xs l 0) $ fsplit t $ feqL t (λ e.
         use1 W (‵ (cells (mem R) xs l 0)) (whole-in 𝓤 H A W R xs l 0) $ lft-new t s (λ ν. move t (1 ∷ []) $
-        use1 W (later (some (λ (δ : GName). ‵ (MutSlice ℓ (ν ∷ []) R .own (elements δ xs) (sliceVal (l, 0) (length xs) ∷ [])) ⊛ ‵ (flent (ν ∷ []) (Held R (length xs) l 0 δ)))))
+        use1 W (later (some (λ (δ : GName). ‵ (MutSlice ℓ (ν ∷ []) R .own (elements δ xs) (sliceVal (l, 0) (length xs) ∷ []))
+        ⊛ ‵ (flent (ν ∷ []) (Held R (length xs) l 0 δ)))))
         (lends-slice 𝓤 H A W R ℓ (ν ∷ []) xs l 0 (subst (Room R) (sym e) room)) $ await t s $ pick t (λ δ. split t $
         -- [the slice; the lender's part; ν's token; …]
-        rewrite t 0 (λ (m : ℕ). ‵ (MutSlice ℓ (ν ∷ []) R .own (elements δ xs) (sliceVal (l, 0) m ∷ []))) e refl $ rewrite t 1 (λ (m : ℕ). ‵ (flent (ν ∷ []) (Held R m l 0 δ))) e refl $
+        rewrite t 0 (λ (m : ℕ). ‵ (MutSlice ℓ (ν ∷ []) R .own (elements δ xs) (sliceVal (l, 0) m ∷ []))) e refl $
+        rewrite t 1 (λ (m : ℕ). ‵ (flent (ν ∷ []) (Held R m l 0 δ))) e refl $
         move t (2 ∷ []) $ k ν δ)))
 
     pub local-back : (vals : R .Denot → List Val) → Tells R (Is R) vals → (ν : ℕ) (δ : GName) (zs : List (R .Denot))
@@ -62,9 +69,11 @@ module _ (R : RattleType) (n l : ℕ) where
         → Seq K W (‵ (flft (ν ∷ []) fullShare) ∷ ‵ (Kept ν δ) ∷ ‵ (finally R δ zs) ∷ Γ) G
     unfolding partOf
     local-back vals tells ν δ zs k =
-        lft-end t s $ use3 W (later (‵ (Arr (mem R) n .lies zs l 0))) (slice-back 𝓤 H A W R (ν ∷ []) δ zs n l 0) $ await t s $ fsplit t $ feqL t (λ e.
+        lft-end t s $ use3 W (later (‵ (Arr (mem R) n .lies zs l 0))) (slice-back 𝓤 H A W R (ν ∷ []) δ zs n l 0) $ await t s $ fsplit t $
+        feqL t (λ e.
         use1 W (‵ (row R fullShare zs l 0)) (whole-out 𝓤 H A W R zs l 0) $ feqI t ℕ (length zs) n e $ fjoin t $
-        use1 W (‵ (partAt (Array R n) fullShare zs l 0)) (array-whole 𝓤 H A W R fullShare n zs l 0) $ fpick t (λ vs. fsplit t $ move t (1 ∷ []) $
+        use1 W (‵ (partAt (Array R n) fullShare zs l 0)) (array-whole 𝓤 H A W R fullShare n zs l 0) $
+        fpick t (λ vs. fsplit t $ move t (1 ∷ []) $
         facts t (Array R n) (Is (Array R n)) (shows 𝓤 H A (Array R n)) zs vs (λ is.
         let told = array-tells R vals tells n zs vs is in
         rewrite t 0 (λ (us : List Val). ‵ (Local us)) told refl $ k (subst (Is (Array R n) zs) told is))))

@@ -44,7 +44,8 @@ pub fn place_next(
     base: &mut [u8],
     sup: &mut [u8],
 ) -> Progress
-    ensures { λ r. ⌜ fillingAt (now (base .exit)) (now (sup .exit)) r ≡ placedNext (now (frames .entry)) dom (fillingAt (now (base .entry)) (now (sup .entry)) «so_far») e ⌝ }
+    ensures { λ r. ⌜ fillingAt (now (base .exit)) (now (sup .exit)) r
+        ≡ placedNext (now (frames .entry)) dom (fillingAt (now (base .entry)) (now (sup .entry)) «so_far») e ⌝ }
 {
     let Progress::Going = so_far else {
         return so_far;
@@ -54,7 +55,8 @@ pub fn place_next(
 
 // The refusal, or row 17.
 pub fn finish(so_far: Progress, base: &[u8], sup: &[u8]) -> Verdict
-    ensures { λ r. ⌜ filling (now (base .entry)) (now (sup .entry)) (outcomeOf r) ≡ onward conflicts (fillingAt (now (base .entry)) (now (sup .entry)) «so_far») ⌝ }
+    ensures { λ r. ⌜ filling (now (base .entry)) (now (sup .entry)) (outcomeOf r)
+        ≡ onward conflicts (fillingAt (now (base .entry)) (now (sup .entry)) «so_far») ⌝ }
 {
     match so_far {
         Progress::Going => no_conflict(base, sup),
@@ -79,7 +81,8 @@ fn past(child: u32, map: &[u8]) -> Verdict
 
 // One edge: the span is its parent's, since a frame does not know how much of the address space maps it.
 fn place_edge(e: Edge, frames: &[[u32; 2]], dom: u16, base: &mut [u8], sup: &mut [u8]) -> Progress
-    ensures { λ r. ⌜ fillingAt (now (base .exit)) (now (sup .exit)) r ≡ placed (now (frames .entry)) dom (filling (now (base .entry)) (now (sup .entry)) accepted) e ⌝ }
+    ensures { λ r. ⌜ fillingAt (now (base .exit)) (now (sup .exit)) r
+        ≡ placed (now (frames .entry)) dom (filling (now (base .entry)) (now (sup .entry)) accepted) e ⌝ }
 {
     if !e.counts(frames, dom) {
         return Progress::Going;

@@ -28,7 +28,8 @@ pub extern "C" fn judge_translation(
     ipa: u64,
     byte: &mut [u64; 1],
 ) -> u32
-    ensures { λ r. ⌜ (r ∷ now (byte .exit)) ≡ translationAnswer (now (arena .entry)) (now (tables .entry)) (now (places .entry)) xnx access ipa ⌝ }
+    ensures { λ r. ⌜ (r ∷ now (byte .exit))
+        ≡ translationAnswer (now (arena .entry)) (now (tables .entry)) (now (places .entry)) xnx access ipa ⌝ }
 {
     match translate(arena, tables, places, xnx != 0, access, ipa) {
         Translated::Byte(pa) => {
@@ -51,7 +52,9 @@ fn translate(
     ipa: u64,
 ) -> Translated
     requires { ⌜ length (now tables) ≡ tableCount ⌝ }
-    ensures { λ r. ⌜ translatedOf r ≡ translation (machineOf xnx (now (places .entry))) (now (tables .entry)) (λ left. wordsOf (now (arena .entry))) (accessNumbered access) ipa ⌝ }
+    ensures { λ r. ⌜ translatedOf r
+        ≡ translation (machineOf xnx (now (places .entry))) (now (tables .entry)) (λ left. wordsOf (now (arena .entry)))
+        (accessNumbered access) ipa ⌝ }
 {
     if Layout::ADDRESSABLE <= ipa {
         return Translated::Fault;
@@ -69,7 +72,9 @@ fn level1(
     named: u64,
 ) -> Translated
     requires { ⌜ length (now tables) ≡ tableCount ⌝ }
-    ensures { λ r. ⌜ translatedOf r ≡ level1 (machineOf xnx (now (places .entry))) (now (tables .entry)) (λ left. wordsOf (now (arena .entry))) (accessNumbered access) ipa named ⌝ }
+    ensures { λ r. ⌜ translatedOf r
+        ≡ level1 (machineOf xnx (now (places .entry))) (now (tables .entry)) (λ left. wordsOf (now (arena .entry)))
+        (accessNumbered access) ipa named ⌝ }
 {
     let index = (ipa / Layout::L1_ENTRY_SIZE % Layout::INDICES) as usize;
     let d = lookup(arena, tables, places, named, index);
@@ -94,7 +99,9 @@ fn level2(
     named: u64,
 ) -> Translated
     requires { ⌜ length (now tables) ≡ tableCount ⌝ }
-    ensures { λ r. ⌜ translatedOf r ≡ level2 (machineOf xnx (now (places .entry))) (now (tables .entry)) (λ left. wordsOf (now (arena .entry))) (accessNumbered access) ipa named ⌝ }
+    ensures { λ r. ⌜ translatedOf r
+        ≡ level2 (machineOf xnx (now (places .entry))) (now (tables .entry)) (λ left. wordsOf (now (arena .entry)))
+        (accessNumbered access) ipa named ⌝ }
 {
     let index = (ipa / Layout::BLOCK_SIZE % Layout::INDICES) as usize;
     let d = lookup(arena, tables, places, named, index);
@@ -119,7 +126,9 @@ fn level3(
     named: u64,
 ) -> Translated
     requires { ⌜ length (now tables) ≡ tableCount ⌝ }
-    ensures { λ r. ⌜ translatedOf r ≡ level3 (machineOf xnx (now (places .entry))) (now (tables .entry)) (λ left. wordsOf (now (arena .entry))) (accessNumbered access) ipa named ⌝ }
+    ensures { λ r. ⌜ translatedOf r
+        ≡ level3 (machineOf xnx (now (places .entry))) (now (tables .entry)) (λ left. wordsOf (now (arena .entry)))
+        (accessNumbered access) ipa named ⌝ }
 {
     let index = (ipa / Layout::PAGE_SIZE % Layout::INDICES) as usize;
     let d = lookup(arena, tables, places, named, index);
@@ -165,7 +174,8 @@ fn permits(xnx: bool, access: u32, d: u64) -> bool
 fn lookup(arena: &[u64], tables: &[u64], places: &[[u64; 3]], named: u64, index: usize) -> u64
     requires { ⌜ length (now tables) ≡ tableCount ⌝ }
     requires { ⌜ index < entries ⌝ }
-    ensures { λ r. ⌜ r ≡ fetch (elsewhereOf (now (places .entry)) named index) (now (tables .entry)) (wordsOf (now (arena .entry))) named index ⌝ }
+    ensures { λ r. ⌜ r ≡ fetch (elsewhereOf (now (places .entry)) named index) (now (tables .entry))
+        (wordsOf (now (arena .entry))) named index ⌝ }
 {
     for t in 0..Layout::TABLES {
         if tables[t] == named {

@@ -11,7 +11,8 @@ use Rattle.edge.specs.declared.Edge.{Edge}
 use Rattle.exact.specs.Exact.{lands, afterEdge, afterEdges, expected, row25, comparedRows, exactRows}
 use Rattle.fields.specs.Named.{pick}
 use Rattle.filling.proofs.Filled.{fitting, too-long}
-use Rattle.filling.specs.Filling.{Filling, filling, mapOf, putIn, inMap, putUnder, placed, onward, unless, placedAll, clearedMaps, filledInto, filled}
+use Rattle.filling.specs.Filling.{Filling, filling, mapOf, putIn, inMap, putUnder, placed, onward, unless, placedAll, clearedMaps}
+use Rattle.filling.specs.Filling.{filledInto, filled}
 use Rattle.layout.specs.Size.{entries as mapEntries}
 use Rattle.lent_rows.proofs.Codes.{no-row3}
 use Rattle.p2m.specs.Frame.{kindAt, spanCode, spanOfKind}

@@ -11,7 +11,8 @@ use Rattle.rows.specs.Rows.{row2, row3, lengthRows, readRows}
 use Rattle.leafmap_theorems.specs.Examples.{Examples}
 
 pub examples : Examples
-unfolding first flatMap eachFrom row2 row3 lengthRows readRows owns counts covers putIn placed onward placedAll row17 conflicts started filled hasGrant ownerRows reachRows authorityRows lands afterEdge afterEdges row25 comparedRows
+unfolding first flatMap eachFrom row2 row3 lengthRows readRows owns counts covers putIn placed onward placedAll row17 conflicts started
+    filled hasGrant ownerRows reachRows authorityRows lands afterEdge afterEdges row25 comparedRows
 examples =
     record {
       four-edges = refl;

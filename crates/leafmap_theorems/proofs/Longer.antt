@@ -130,7 +130,8 @@ fills-whole frames dom edges base sup a =
     let fits = fit frames dom edges base sup a in
     let here = sym (ap (λ (f : Filling). f .outcome) same) ∙ a in
     let whole =
-    longer-accepts frames dom edges n m mapEntries mapEntries (short frames dom edges base sup Base fits) (short frames dom edges base sup Super fits) here in
+    longer-accepts frames dom edges n m mapEntries mapEntries (short frames dom edges base sup Base fits)
+    (short frames dom edges base sup Super fits) here in
     record {
       whole = whole;
       same =

@@ -22,7 +22,8 @@ use Rattle.manual.proofs.OneDescent.{from, answer, walkDescent, walk-de
 
 -- a table that is among those listed is read whatever stands outside, and its words are the arena's
 module _ (words : Words) (named j : ℕ) where
-  indifferent : (ts : List ℕ) (from out : ℕ) → among ts named ≡ true → fetchFrom from out ts words named j ≡ fetchFrom from 0 ts words named j
+  indifferent : (ts : List ℕ) (from out : ℕ) → among ts named ≡ true
+      → fetchFrom from out ts words named j ≡ fetchFrom from 0 ts words named j
   unfolding fetchFrom
   indifferent [] from out h = absurd (let z : _≡_ {A = ℕ} 0 1 = cc in omega arith)
   indifferent (t ∷ ts) from out h = go (eqb t named) refl (λ g. indifferent ts (from + entries) out g)
@@ -35,7 +36,8 @@ module _ (words : Words) (named j : ℕ) where
       go true e later = refl
       go false e later = let f : (false || among ts named) ≡ true = rw e at h in later f
 
-  one-of : (P : ℕ → Type 0) → ((i : ℕ) → P (words i)) → (ts : List ℕ) (from : ℕ) → among ts named ≡ true → P (fetchFrom from 0 ts words named j)
+  one-of : (P : ℕ → Type 0) → ((i : ℕ) → P (words i)) → (ts : List ℕ) (from : ℕ) → among ts named ≡ true
+      → P (fetchFrom from 0 ts words named j)
   unfolding fetchFrom
   one-of P all [] from h = absurd (let z : _≡_ {A = ℕ} 0 1 = cc in omega arith)
   one-of P all (t ∷ ts) from h = go (eqb t named) refl (λ g. one-of P all ts (from + entries) g)

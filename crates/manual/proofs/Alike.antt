@@ -55,7 +55,8 @@ no-fault : {A : Type 0} {out : ℕ} → byte out ≡ fault → A
 no-fault e = absurd (let z : _≡_ {A = ℕ} 0 1 = cc in omega arith)
 
 enough-bits :
-    (xnx r w f n k : Bool) → alikeBits xnx (bit r) (bit w) (bit f) (bit n) (bit k) ≡ true → AgreesBits xnx (bit r) (bit w) (bit f) (bit n) (bit k)
+    (xnx r w f n k : Bool) → alikeBits xnx (bit r) (bit w) (bit f) (bit n) (bit k) ≡ true
+    → AgreesBits xnx (bit r) (bit w) (bit f) (bit n) (bit k)
 enough-bits xnx true w false n k h a out = impossible (sym h)
 enough-bits xnx true true true n k h reads out = refl
 enough-bits xnx true false true n k h reads out = refl
@@ -86,7 +87,8 @@ enough-bits true false false true true false h (executes el0) out = refl
 enough-bits true false false true true false h (executes el1) out = refl
 
 needed-bits :
-    (xnx r w f n k : Bool) → AgreesBits xnx (bit r) (bit w) (bit f) (bit n) (bit k) → alikeBits xnx (bit r) (bit w) (bit f) (bit n) (bit k) ≡ true
+    (xnx r w f n k : Bool) → AgreesBits xnx (bit r) (bit w) (bit f) (bit n) (bit k)
+    → alikeBits xnx (bit r) (bit w) (bit f) (bit n) (bit k) ≡ true
 needed-bits xnx true true false n k h = no-fault (sym (h reads 0))
 needed-bits xnx true false false n k h = no-fault (sym (h reads 0))
 needed-bits false true w true n k h = refl
@@ -130,12 +132,14 @@ both-bits d = omega arith
 
 read-access : (s pa offset : ℕ) (never : Bool) →
     leafReach offset (leafOf pa never (accessNamed s))
-    ≡ pick (eqb s 3) (At (record { pa = pa + offset; perm = Rw; xn = never })) (pick (eqb s 1) (At (record { pa = pa + offset; perm = Ro; xn = never })) Nothing)
+    ≡ pick (eqb s 3) (At (record { pa = pa + offset; perm = Rw; xn = never }))
+    (pick (eqb s 1) (At (record { pa = pa + offset; perm = Ro; xn = never })) Nothing)
 read-access s pa offset never = go (eqb s 3) (eqb s 1) refl refl
   where
     go : (b c : Bool) → eqb s 3 ≡ b → eqb s 1 ≡ c →
         leafReach offset (leafOf pa never (accessNamed s))
-        ≡ pick b (At (record { pa = pa + offset; perm = Rw; xn = never })) (pick c (At (record { pa = pa + offset; perm = Ro; xn = never })) Nothing)
+        ≡ pick b (At (record { pa = pa + offset; perm = Rw; xn = never }))
+        (pick c (At (record { pa = pa + offset; perm = Ro; xn = never })) Nothing)
     go true c e f = rw e
     go false true e f = rw (e, f)
     go false false e f = rw (e, f)
@@ -143,9 +147,11 @@ read-access s pa offset never = go (eqb s 3) (eqb s 1) refl refl
 reads-bits : (d pa offset : ℕ) → leafReach offset (leafAt pa d) ≡ readBits (pa + offset) (bits 6 6 d) (bits 7 7 d) (xn d)
 reads-bits d pa offset =
     read-access (s2ap d) pa offset (executeNever d)
-    ∙ ap (λ (s : ℕ). pick (eqb s 3) (reachBits (pa + offset) Rw (xn d)) (pick (eqb s 1) (reachBits (pa + offset) Ro (xn d)) Nothing)) (both-bits d)
+    ∙ ap (λ (s : ℕ). pick (eqb s 3) (reachBits (pa + offset) Rw (xn d)) (pick (eqb s 1) (reachBits (pa + offset) Ro (xn d)) Nothing))
+    (both-bits d)
 
-by-access : (xnx : Bool) (a : Access) (out d : ℕ) → leaf xnx a out d ≡ leafBits xnx a out (bits 6 6 d) (bits 7 7 d) (af d) (xn d) (bits 53 53 d)
+by-access : (xnx : Bool) (a : Access) (out d : ℕ)
+    → leaf xnx a out d ≡ leafBits xnx a out (bits 6 6 d) (bits 7 7 d) (af d) (xn d) (bits 53 53 d)
 by-access xnx reads out d = refl
 by-access xnx writes out d = refl
 by-access false (executes el) out d = refl
@@ -165,4 +171,5 @@ leaves-agree = record { enough = enough; needed = needed }
         of-word (λ r w f n k. AgreesBits xnx r w f n k → alikeBits xnx r w f n k ≡ true) (needed-bits xnx) d
         (λ a out.
         let z : out ≡ out + 0 = omega arith in
-        sym (by-access xnx a out d) ∙ ap (λ (o : ℕ). leaf xnx a o d) z ∙ h a out 0 ∙ ap (allowed a) (reads-bits d out 0 ∙ ap (λ (o : ℕ). readBits o (bits 6 6 d) (bits 7 7 d) (xn d)) (sym z)))
+        sym (by-access xnx a out d) ∙ ap (λ (o : ℕ). leaf xnx a o d) z ∙ h a out 0
+        ∙ ap (allowed a) (reads-bits d out 0 ∙ ap (λ (o : ℕ). readBits o (bits 6 6 d) (bits 7 7 d) (xn d)) (sym z)))

@@ -1,6 +1,7 @@
 // Frame kinds and owners (hv-core's p2m.rs), and the span of a table's leaves (hv-s2's leafmap.rs).
 ghost use mathlib.Core.Path.{_≡_};
-ghost use Rattle.p2m.specs.Frame.{kindOf, levelOfKind, typeCode, levelOfType, childType, spanCode, spanNamed, spanOfKind, ownerOf, kindAt};
+ghost use Rattle.p2m.specs.Frame.{kindOf, levelOfKind, typeCode, levelOfType, childType, spanCode, spanNamed, spanOfKind, ownerOf};
+ghost use Rattle.p2m.specs.Frame.{kindAt};
 
 // The level of a page table. L1 is the bottom: its entries map ordinary pages.
 pub enum PtLevel {

@@ -18,7 +18,8 @@ use Rattle.probe.specs.Granules.{granuleNumbers, startLevelNumbers, size
 use Rattle.probe.specs.Levels.{tableLevelNumbers, typeNamed, typeNumbers}
 use Rattle.probe.specs.Regimes.{regimeAnswer}
 use Rattle.probe.specs.Registers.{decodedNumbers, partNumbers}
-use Rattle.probe.specs.Words.{permNamed, permNumbers, memoryNumbers, constantNumbers, wordNumbers, leafNumbers, tableNumbers, deviceNumbers}
+use Rattle.probe.specs.Words.{permNamed, permNumbers, memoryNumbers, constantNumbers, wordNumbers, leafNumbers, tableNumbers}
+use Rattle.probe.specs.Words.{deviceNumbers}
 
 -- the answer of function op at the numbers x: eight numbers for eight; zeros where there is no such function. 17 is
 -- VTTBR_EL2 of a base and a VMID

@@ -5,7 +5,8 @@ use decode::DecodedTable;
 use memtype::MemoryType;
 use perm::Perm;
 ghost use mathlib.Core.Path.{_≡_};
-ghost use Rattle.probe.specs.Words.{permNamed, permNumbers, memoryNumbers, encodingNumbers, constantNumbers, wordNumbers, leafNumbers, tableNumbers, deviceNumbers};
+ghost use Rattle.probe.specs.Words.{permNamed, permNumbers, memoryNumbers, encodingNumbers, constantNumbers, wordNumbers};
+ghost use Rattle.probe.specs.Words.{leafNumbers, tableNumbers, deviceNumbers};
 
 // A permission by its code.
 enum PermNamed {

@@ -6,7 +6,12 @@ use native.Mathlib.Omega.{arith}
 use lib.ListN.{length, getD, drop, drop-of-length-le}
 use lib.Seq.{drop-cons}
 use Rattle.refusal.specs.Outcome.{outcomeOf, outcomeWords}
-use Rattle.refusal.specs.declared.Refusal.the-variants.{ArenaLength, MapLength, MapCode, DeviceWindowUnaligned, GranuleNotEmitted, WindowUnaligned, TableUnnameable, SuperFramesUncountable, RegionCrossesL1, OutputPastLimit, RegionsCollide, WindowsOverlap, TablesEqual, SuperUnbacked, UnsupportedSpan, OutOfRange, SpanConflict, BadTableEntry, BadImageBlock, BadLeaf, SpuriousDescriptor, BadDeviceBlock, UnauthorizedMapping, WriteEscalation, Inexact, StepPastLast}
+use Rattle.refusal.specs.declared.Refusal.the-variants.{ArenaLength, MapLength, MapCode, DeviceWindowUnaligned, GranuleNotEmitted}
+use Rattle.refusal.specs.declared.Refusal.the-variants.{WindowUnaligned, TableUnnameable, SuperFramesUncountable, RegionCrossesL1}
+use Rattle.refusal.specs.declared.Refusal.the-variants.{OutputPastLimit, RegionsCollide, WindowsOverlap, TablesEqual, SuperUnbacked}
+use Rattle.refusal.specs.declared.Refusal.the-variants.{UnsupportedSpan, OutOfRange, SpanConflict, BadTableEntry, BadImageBlock}
+use Rattle.refusal.specs.declared.Refusal.the-variants.{BadLeaf, SpuriousDescriptor, BadDeviceBlock, UnauthorizedMapping}
+use Rattle.refusal.specs.declared.Refusal.the-variants.{WriteEscalation, Inexact, StepPastLast}
 use Rattle.refusal.specs.declared.Verdict.the-variants.{Accepted, Refused}
 use Rattle.refusal.specs.declared.Verdict.{Verdict}
 
@@ -44,7 +49,10 @@ pub nine :
     length w ≡ 9 →
     (getD w 0 0 ∷ getD w 1 0 ∷ getD w 2 0 ∷ getD w 3 0 ∷ getD w 4 0 ∷ getD w 5 0 ∷ getD w 6 0 ∷ getD w 7 0 ∷ getD w 8 0 ∷ []) ≡ w
 nine w h =
-    sym (next 0 (omega arith) (next 1 (omega arith) (next 2 (omega arith) (next 3 (omega arith) (next 4 (omega arith) (next 5 (omega arith) (next 6 (omega arith) (next 7 (omega arith) (next 8 (omega arith) (drop-of-length-le w {i = 9} (omega (arith, h))))))))))))
+    sym (next 0 (omega arith) (next 1 (omega arith)
+    (next 2 (omega arith) (next 3 (omega arith)
+    (next 4 (omega arith) (next 5 (omega arith)
+    (next 6 (omega arith) (next 7 (omega arith) (next 8 (omega arith) (drop-of-length-le w {i = 9} (omega (arith, h))))))))))))
   where
     next : (k : ℕ) {xs : List ℕ} → k < 9 → drop (suc k) w ≡ xs → drop k w ≡ getD w k 0 ∷ xs
     next k lt e = drop-cons w k 0 (omega (arith, h, lt)) ∙ ap (λ (ys : List ℕ). getD w k 0 ∷ ys) e

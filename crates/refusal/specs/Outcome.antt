@@ -12,7 +12,12 @@ use Rattle.p2m.specs.declared.Owner.{Owner}
 use Rattle.perm.specs.Perm.{permCode, entryCode}
 use Rattle.refusal.specs.Table.{Row, row, Outcome, accepted, refused, given}
 use Rattle.refusal.specs.declared.Refusal.{Refusal}
-use Rattle.refusal.specs.declared.Refusal.the-variants.{ArenaLength, MapLength, MapCode, DeviceWindowUnaligned, GranuleNotEmitted, WindowUnaligned, TableUnnameable, SuperFramesUncountable, RegionCrossesL1, OutputPastLimit, RegionsCollide, WindowsOverlap, TablesEqual, SuperUnbacked, UnsupportedSpan, OutOfRange, SpanConflict, BadTableEntry, BadImageBlock, BadLeaf, SpuriousDescriptor, BadDeviceBlock, UnauthorizedMapping, WriteEscalation, Inexact, StepPastLast}
+use Rattle.refusal.specs.declared.Refusal.the-variants.{ArenaLength, MapLength, MapCode, DeviceWindowUnaligned, GranuleNotEmitted}
+use Rattle.refusal.specs.declared.Refusal.the-variants.{WindowUnaligned, TableUnnameable, SuperFramesUncountable, RegionCrossesL1}
+use Rattle.refusal.specs.declared.Refusal.the-variants.{OutputPastLimit, RegionsCollide, WindowsOverlap, TablesEqual, SuperUnbacked}
+use Rattle.refusal.specs.declared.Refusal.the-variants.{UnsupportedSpan, OutOfRange, SpanConflict, BadTableEntry, BadImageBlock}
+use Rattle.refusal.specs.declared.Refusal.the-variants.{BadLeaf, SpuriousDescriptor, BadDeviceBlock, UnauthorizedMapping}
+use Rattle.refusal.specs.declared.Refusal.the-variants.{WriteEscalation, Inexact, StepPastLast}
 use Rattle.refusal.specs.declared.Verdict.{Verdict}
 use Rattle.refusal.specs.declared.Verdict.the-variants.{Accepted, Refused}
 

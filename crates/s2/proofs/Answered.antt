@@ -14,7 +14,8 @@ use prog.Routine.{Routine}
 use prog.Wp.{Heap}
 use ghost.Atoms.{Atoms, sem}
 use contract.Monad.{Fun, fact}
-use types.Kit.{Given, ‵, raw, _⊛_, some, later, _$_, _∵_, !, qed, move, keep, drop, use1, split, join, pick, show, check, fsplit, fjoin, frame, await, updating, now as at-once, done}
+use types.Kit.{Given, ‵, raw, _⊛_, some, later, _$_, _∵_, !, qed, move, keep, drop, use1, split, join, pick, show, check, fsplit, fjoin}
+use types.Kit.{frame, await, updating, now as at-once, done}
 use denote.RattleType.{RattleType}
 use denote.Array.{Array}
 use denote.Builtin.{u32, u64}
@@ -64,19 +65,27 @@ module _ {M : Type 1} (𝓤 : URA M) (H : Heap 𝓤) (A : Atoms 𝓤) (mem : Mem
     Left w r ws = sep 𝓤 (A .lft κ q) (sep 𝓤 (sem 𝓤 H A (last γ ws)) (sem 𝓤 H A (u32 .own r (w ∷ []))))
 
     module _ (W : Given 𝓤 H A) where
-      pub asks-answer : ent 𝓤 (sep 𝓤 (sem 𝓤 H A (R.the-row .own verdict (u ∷ []))) (sep 𝓤 (A .lft κ q) (sem 𝓤 H A (Lent κ b o γ before)))) (Answer .pre to-answer)
+      pub asks-answer : ent 𝓤 (sep 𝓤 (sem 𝓤 H A (R.the-row .own verdict (u ∷ []))) (sep 𝓤 (A .lft κ q) (sem 𝓤 H A (Lent κ b o γ before))))
+          (Answer .pre to-answer)
       asks-answer =
           qed W (‵ (R.the-row .own verdict (u ∷ [])) ∷ (‵ (flft κ q) ⊛ ‵ (Lent κ b o γ before)) ∷ []) ∵ move ! (1 ∷ []) $ split ! $
           -- [the token; the values; the verdict]
-          nothing ! $ move ! (2 ∷ 0 ∷ []) $ fjoin ! $ move ! (2 ∷ 0 ∷ []) $ fjoin ! $ nothing ! $ move ! (2 ∷ 0 ∷ []) $ join ! $ join ! $ frame ! $ done !
+          nothing ! $ move ! (2 ∷ 0 ∷ []) $ fjoin ! $ move ! (2 ∷ 0 ∷ []) $ fjoin ! $ nothing ! $ move ! (2 ∷ 0 ∷ []) $ join ! $ join ! $
+          frame ! $ done !
 
-      pub answered : (w : Val) → ent 𝓤 (Answer .post to-answer w) (H .⇛ (ex 𝓤 (λ (r : ℕ). ex 𝓤 (λ (ws : List ℕ). guard 𝓤 (Tells verdict r ws) (Left w r ws)))))
+      pub answered : (w : Val) → ent 𝓤 (Answer .post to-answer w)
+          (H .⇛ (ex 𝓤 (λ (r : ℕ). ex 𝓤 (λ (ws : List ℕ). guard 𝓤 (Tells verdict r ws) (Left w r ws)))))
       answered w =
           qed W (raw (Answer .post to-answer w) ∷ []) ∵ updating ! $
-          use1 W (later (some (λ (r : ℕ). ((‵ (flft κ q) ⊛ ‵ ftrue) ⊛ ‵ (u32 .own r (w ∷ []))) ⊛ raw (ensured 𝓤 H A answer.ended (answer.clauses 𝓤 H A mem run) (κ, tt) (verdict, (lent b o γ before, tt)) tt r)))) (id⊢ 𝓤 _) $ await ! tt $ pick ! (λ r.
+          use1 W (later (some (λ (r : ℕ). ((‵ (flft κ q) ⊛ ‵ ftrue) ⊛ ‵ (u32 .own r (w ∷ [])))
+          ⊛ raw (ensured 𝓤 H A answer.ended (answer.clauses 𝓤 H A mem run) (κ, tt) (verdict, (lent b o γ before, tt)) tt r)))) (id⊢ 𝓤 _) $
+          await ! tt $ pick ! (λ r.
           split ! $ move ! (1 ∷ []) $
-          use1 W (some (λ (zs : Unit {0} × (List ℕ × Unit {0})). ‵ (lasts answer.ended (κ, tt) (verdict, (lent b o γ before, tt)) zs) ⊛ raw (fact 𝓤 (Tells verdict r (zs .1 .0))))) (id⊢ 𝓤 _) $ pick ! (λ zs.
-          split ! $ move ! (1 ∷ []) $ heard ! (Tells verdict r (zs .1 .0)) (λ tells. fsplit ! $ drop ! $ fsplit ! $ move ! (2 ∷ []) $ split ! $ split ! $
+          use1 W (some (λ (zs : Unit {0} × (List ℕ × Unit {0})). ‵ (lasts answer.ended (κ, tt) (verdict, (lent b o γ before, tt)) zs)
+          ⊛ raw (fact 𝓤 (Tells verdict r (zs .1 .0))))) (id⊢ 𝓤 _) $ pick ! (λ zs.
+          split ! $ move ! (1 ∷ []) $ heard ! (Tells verdict r (zs .1 .0)) (λ tells.
+          fsplit ! $ drop ! $ fsplit ! $ move ! (2 ∷ []) $ split ! $ split ! $
           -- [the token; true; the number; the last values; true]
           at-once ! $ show ! (λ (n : ℕ). ex 𝓤 (λ (ws : List ℕ). guard 𝓤 (Tells verdict n ws) (Left w n ws))) r $
-          show ! (λ (ws : List ℕ). guard 𝓤 (Tells verdict r ws) (Left w r ws)) (zs .1 .0) $ check ! tells $ keep ! (0 ∷ 3 ∷ 2 ∷ []) $ done !)))
+          show ! (λ (ws : List ℕ). guard 𝓤 (Tells verdict r ws) (Left w r ws)) (zs .1 .0) $ check ! tells $ keep ! (0 ∷ 3 ∷ 2 ∷ []) $
+          done !)))

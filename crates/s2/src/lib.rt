@@ -12,7 +12,8 @@ ghost use mathlib.Core.Path.{_≡_};
 ghost use lib.ListN.{getD};
 ghost use Rattle.edge.specs.Edge.{edgesOf};
 ghost use Rattle.refusal.specs.Outcome.{outcomeOf, outcomeWords};
-ghost use Rattle.s2.specs.Answers.{validateAnswer, fillAnswer, EncodeAnswer, StepAnswer, walkAnswer, verifyAnswer, exposedAnswer, authorizedAnswer, exactAnswer};
+ghost use Rattle.s2.specs.Answers.{validateAnswer, fillAnswer, EncodeAnswer, StepAnswer, walkAnswer, verifyAnswer, exposedAnswer};
+ghost use Rattle.s2.specs.Answers.{authorizedAnswer, exactAnswer};
 
 // Rows 4 to 12.
 #[no_mangle]
@@ -32,7 +33,8 @@ pub extern "C" fn s2_fill(
     sup: &mut [u8],
     values: &mut [u64; 8],
 ) -> u32
-    ensures { λ r. ⌜ ((r ∷ now (values .exit)) ∷ now (base .exit) ∷ now (sup .exit) ∷ []) ≡ fillAnswer (edgesOf (now (edges .entry))) (now (frames .entry)) dom (now (base .entry)) (now (sup .entry)) ⌝ }
+    ensures { λ r. ⌜ ((r ∷ now (values .exit)) ∷ now (base .exit) ∷ now (sup .exit) ∷ [])
+        ≡ fillAnswer (edgesOf (now (edges .entry))) (now (frames .entry)) dom (now (base .entry)) (now (sup .entry)) ⌝ }
 {
     answer(
         leafmap::leaf_map_from_edges(edges, frames, dom, base, sup),
@@ -50,7 +52,8 @@ pub extern "C" fn s2_fill_edges(
     sup: &mut [u8],
     values: &mut [u64; 8],
 ) -> u32
-    ensures { λ r. ⌜ ((r ∷ now (values .exit)) ∷ now (base .exit) ∷ now (sup .exit) ∷ []) ≡ fillAnswer (now (edges .entry)) (now (frames .entry)) dom (now (base .entry)) (now (sup .entry)) ⌝ }
+    ensures { λ r. ⌜ ((r ∷ now (values .exit)) ∷ now (base .exit) ∷ now (sup .exit) ∷ [])
+        ≡ fillAnswer (now (edges .entry)) (now (frames .entry)) dom (now (base .entry)) (now (sup .entry)) ⌝ }
 {
     answer(
         leafmap_edges::leaf_map_from_edges(edges, frames, dom, base, sup),
@@ -67,7 +70,8 @@ pub extern "C" fn s2_encode(
     layout: &[u64; Layout::NUMBERS],
     values: &mut [u64; 8],
 ) -> u32
-    ensures { λ r. ⌜ EncodeAnswer (now (layout .entry)) (now (base .entry)) (now (sup .entry)) (now (arena .entry)) (r ∷ now (values .exit)) (now (arena .exit)) ⌝ }
+    ensures { λ r. ⌜ EncodeAnswer (now (layout .entry)) (now (base .entry)) (now (sup .entry)) (now (arena .entry)) (r ∷ now (values .exit))
+        (now (arena .exit)) ⌝ }
 {
     answer(encode::encode(arena, base, sup, Layout::of(layout)), values)
 }
@@ -82,7 +86,8 @@ pub extern "C" fn s2_step(
     step: u64,
     values: &mut [u64; 8],
 ) -> u32
-    ensures { λ r. ⌜ StepAnswer (now (layout .entry)) (now (base .entry)) (now (sup .entry)) step (now (arena .entry)) (r ∷ now (values .exit)) (now (arena .exit)) ⌝ }
+    ensures { λ r. ⌜ StepAnswer (now (layout .entry)) (now (base .entry)) (now (sup .entry)) step (now (arena .entry))
+        (r ∷ now (values .exit)) (now (arena .exit)) ⌝ }
 {
     answer(
         update::step(arena, base, sup, Layout::of(layout), step),
@@ -115,7 +120,8 @@ pub extern "C" fn s2_verify(
     layout: &[u64; Layout::NUMBERS],
     values: &mut [u64; 8],
 ) -> u32
-    ensures { λ r. ⌜ (r ∷ now (values .exit)) ≡ verifyAnswer (now (layout .entry)) (now (arena .entry)) (now (base .entry)) (now (sup .entry)) ⌝ }
+    ensures { λ r. ⌜ (r ∷ now (values .exit))
+        ≡ verifyAnswer (now (layout .entry)) (now (arena .entry)) (now (base .entry)) (now (sup .entry)) ⌝ }
 {
     answer(
         verify::verify_encoding(arena, base, sup, Layout::of(layout)),
@@ -161,7 +167,8 @@ pub extern "C" fn s2_exact(
     frames: &[[u32; 2]],
     values: &mut [u64; 8],
 ) -> u32
-    ensures { λ r. ⌜ (r ∷ now (values .exit)) ≡ exactAnswer dom (now (map .entry)) span (edgesOf (now (edges .entry))) (now (frames .entry)) ⌝ }
+    ensures { λ r. ⌜ (r ∷ now (values .exit))
+        ≡ exactAnswer dom (now (map .entry)) span (edgesOf (now (edges .entry))) (now (frames .entry)) ⌝ }
 {
     let span = Span::of(span);
     answer(exact::check_exact(dom, map, span, edges, frames), values)

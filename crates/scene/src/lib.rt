@@ -10,7 +10,8 @@ const IMAGE: usize = 7;
 
 // Sets what the line says, over what an earlier line set.
 pub fn apply(line: Line, numbers: &mut [u64], base: &mut [u8], sup: &mut [u8])
-    ensures { λ _. ⌜ scene (now (numbers .exit)) (now (base .exit)) (now (sup .exit)) ≡ applied (scene (now (numbers .entry)) (now (base .entry)) (now (sup .entry))) line ⌝ }
+    ensures { λ _. ⌜ scene (now (numbers .exit)) (now (base .exit)) (now (sup .exit))
+        ≡ applied (scene (now (numbers .entry)) (now (base .entry)) (now (sup .entry))) line ⌝ }
 {
     match line {
         Line::Field { field, value } => put_field(numbers, field, value),

@@ -6,7 +6,8 @@ ghost use Rattle.scene_read.specs.Input.{ReadsText};
 
 // Whether every line said something.
 pub fn read_scene(numbers: &mut [u64], base: &mut [u8], sup: &mut [u8]) -> bool
-    ensures { λ r. ⌜ ReadsText (scene (now (numbers .entry)) (now (base .entry)) (now (sup .entry))) r (scene (now (numbers .exit)) (now (base .exit)) (now (sup .exit))) ⌝ }
+    ensures { λ r. ⌜ ReadsText (scene (now (numbers .entry)) (now (base .entry)) (now (sup .entry))) r
+        (scene (now (numbers .exit)) (now (base .exit)) (now (sup .exit))) ⌝ }
 {
     let mut piece = io::buffer();
     let mut line = [0; scene_text::LINE];

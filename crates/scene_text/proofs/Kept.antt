@@ -79,7 +79,8 @@ module _ (room : ℕ) where
 
     -- what a byte leaves is read on
     pub after-byte :
-        (next : Reading) → i < length cs → next ≡ taken room r (getD cs i 0) → takenAll room next (drop (i + 1) cs) ≡ takenAll room r (drop i cs)
+        (next : Reading) → i < length cs → next ≡ taken room r (getD cs i 0)
+        → takenAll room next (drop (i + 1) cs) ≡ takenAll room r (drop i cs)
     after-byte next inside e = ap (λ q. takenAll room q (drop (i + 1) cs)) e ∙ sym (byte-next inside)
 
     pub byte-none : length cs ≤ i → takenAll room r (drop i cs) ≡ r

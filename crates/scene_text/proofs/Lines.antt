@@ -1,5 +1,5 @@
--- What is read piece by piece is what the lines of the text say: by the bytes that are left. A line of which bytes are dropped is longer than
--- any that says something.
+-- What is read piece by piece is what the lines of the text say: by the bytes that are left. A line of which bytes are dropped is longer
+-- than any that says something.
 use Prim.Native.Nat.{ℕ, _+_, _<_}
 use mathlib.Core.Bool.{Bool, true, false}
 use mathlib.Core.List.{List, [], _∷_, _++_, foldl, foldl-append}
@@ -86,12 +86,14 @@ module _ (room : ℕ) (enough : 35 < room) where
   onward-read (badLine s) cs later = ap finished (stays room s cs) ∙ sym (unheard s (linesOf cs))
 
   one-byte :
-      (s : Scene) (line : List ℕ) (c : ℕ) (cs : List ℕ) → ((t : Scene) → Reads t [] cs) → Reads s (line ++ (c ∷ [])) cs → Reads s line (c ∷ cs)
+      (s : Scene) (line : List ℕ) (c : ℕ) (cs : List ℕ) → ((t : Scene) → Reads t [] cs) → Reads s (line ++ (c ∷ [])) cs
+      → Reads s line (c ∷ cs)
   unfolding takenAll
   one-byte s line c cs next more = go (eqb c lineFeed) refl
     where
       go : (b : Bool) → eqb c lineFeed ≡ b →
-          finished (takenAll room (pick b (readOn (heard s (lineOf (take room line)))) (reading s (take room (take room line ++ (c ∷ []))))) cs)
+          finished (takenAll room (pick b (readOn (heard s (lineOf (take room line))))
+          (reading s (take room (take room line ++ (c ∷ []))))) cs)
           ≡ foldl withLine (whole s) (after line (c ∷ cs))
       go true e =
           ap (λ l. finished (takenAll room (readOn (heard s l)) cs)) (says-same line)

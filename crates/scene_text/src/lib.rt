@@ -25,7 +25,10 @@ pub fn take(
     base: &mut [u8],
     sup: &mut [u8],
 ) -> Taken
-    ensures { λ r. ⌜ readingOf r (now (line .exit)) (scene (now (numbers .exit)) (now (base .exit)) (now (sup .exit))) ≡ takenAll (length (now (line .entry))) (reading (scene (now (numbers .entry)) (now (base .entry)) (now (sup .entry))) (take kept (now (line .entry)))) (now (piece .entry)) ⌝ }
+    ensures { λ r. ⌜ readingOf r (now (line .exit)) (scene (now (numbers .exit)) (now (base .exit)) (now (sup .exit)))
+        ≡ takenAll (length (now (line .entry)))
+        (reading (scene (now (numbers .entry)) (now (base .entry)) (now (sup .entry))) (take kept (now (line .entry))))
+        (now (piece .entry)) ⌝ }
 {
     let mut len = least(kept, line.len());
     for i in 0..piece.len() {
@@ -45,7 +48,8 @@ pub fn finish(
     base: &mut [u8],
     sup: &mut [u8],
 ) -> bool
-    ensures { λ r. ⌜ readOf r (scene (now (numbers .exit)) (now (base .exit)) (now (sup .exit))) ≡ finished (reading (scene (now (numbers .entry)) (now (base .entry)) (now (sup .entry))) (take kept (now (line .entry)))) ⌝ }
+    ensures { λ r. ⌜ readOf r (scene (now (numbers .exit)) (now (base .exit)) (now (sup .exit)))
+        ≡ finished (reading (scene (now (numbers .entry)) (now (base .entry)) (now (sup .entry))) (take kept (now (line .entry)))) ⌝ }
 {
     let len = least(kept, line.len());
     if len == 0 {
@@ -65,7 +69,9 @@ fn take_byte(
 ) -> Taken
     requires { ⌜ len ≤ length (now line) ⌝ }
     ensures { λ r. ⌜ Fits (length (now (line .exit))) r ⌝ }
-    ensures { λ r. ⌜ readingOf r (now (line .exit)) (scene (now (numbers .exit)) (now (base .exit)) (now (sup .exit))) ≡ taken (length (now (line .entry))) (reading (scene (now (numbers .entry)) (now (base .entry)) (now (sup .entry))) (take len (now (line .entry)))) byte ⌝ }
+    ensures { λ r. ⌜ readingOf r (now (line .exit)) (scene (now (numbers .exit)) (now (base .exit)) (now (sup .exit)))
+        ≡ taken (length (now (line .entry)))
+        (reading (scene (now (numbers .entry)) (now (base .entry)) (now (sup .entry))) (take len (now (line .entry)))) byte ⌝ }
 {
     if byte == b'\n' {
         if set(&line[..len], numbers, base, sup) {
@@ -82,7 +88,8 @@ fn take_byte(
 
 // Whether the line said something, which is then set.
 fn set(line: &[u8], numbers: &mut [u64], base: &mut [u8], sup: &mut [u8]) -> bool
-    ensures { λ r. ⌜ readOf r (scene (now (numbers .exit)) (now (base .exit)) (now (sup .exit))) ≡ heard (scene (now (numbers .entry)) (now (base .entry)) (now (sup .entry))) (lineOf (now (line .entry))) ⌝ }
+    ensures { λ r. ⌜ readOf r (scene (now (numbers .exit)) (now (base .exit)) (now (sup .exit)))
+        ≡ heard (scene (now (numbers .entry)) (now (base .entry)) (now (sup .entry))) (lineOf (now (line .entry))) ⌝ }
 {
     let said = scene_line::line_of(line);
     scene::apply(said, numbers, base, sup);

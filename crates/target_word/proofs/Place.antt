@@ -53,7 +53,8 @@ module _ (xs : List Area) (k j word : ℕ) where
       let at : indexOf j ≡ j = omega (arith, b) in
       rw (add-one, drop-cons xs k noArea h)
       (named-next (getD xs k noArea) (drop (suc k) xs) j word (omega (arith, b))
-      ∙ ap (λ (n : ℕ). stored (map areaRun (drop (suc k) xs)) j (pick (areaHas (getD xs k noArea) n) (tableTo (getD xs k noArea .table)) word)) at)
+      ∙ ap (λ (n : ℕ). stored (map areaRun (drop (suc k) xs)) j
+      (pick (areaHas (getD xs k noArea) n) (tableTo (getD xs k noArea .table)) word)) at)
 
   pub area-end : length xs ≤ k → stored (map areaRun (drop k xs)) j word ≡ word
   unfolding stored

@@ -19,7 +19,8 @@ use Rattle.refusal.proofs.None.{none, both, test}
 use Rattle.refusal.specs.Table.{Row, first, given, each, allRows}
 use Rattle.rows.specs.Rows.{row1, mapRows, refusals}
 use Rattle.verify_rows.proofs.Range.{everywhere}
-use Rattle.verify_rows.specs.Verifying.{word, range, indices, liveRow, liveAt, otherRow, otherRows, l1Rows, imageRows, dataRows, baseRow, pageRows, superRow, superRows, wantedBlock, deviceRow, deviceRows, encodingRows, verifyRows}
+use Rattle.verify_rows.specs.Verifying.{word, range, indices, liveRow, liveAt, otherRow, otherRows, l1Rows, imageRows, dataRows, baseRow}
+use Rattle.verify_rows.specs.Verifying.{pageRows, superRow, superRows, wantedBlock, deviceRow, deviceRows, encodingRows, verifyRows}
 use Rattle.verify_rows.specs.Word.{readPage, readBlock, row18, row19, spurious, wantedLeaf, leafRow, blockRow}
 use Rattle.verify_theorems.specs.Examples.{Wrong}
 use Rattle.verify_theorems.specs.Verified.{Verifies, storedAt}

@@ -11,11 +11,13 @@ use Rattle.layout.specs.Size.{firstWord}
 use Rattle.refusal.specs.Table.{row, Outcome, first, eachFrom, pairs}
 use Rattle.rows.specs.Examples.{sceneS, baseS, supS}
 use Rattle.rows.specs.Faults.{neighbours}
-use Rattle.rows.specs.Rows.{row1, row2, row3, row4, row5, row6, row7, row8, row9, row10, row13, row14, lengthRows, mapRows, pairRows, windowRows, refusalsAt, guardRows}
+use Rattle.rows.specs.Rows.{row1, row2, row3, row4, row5, row6, row7, row8, row9, row10, row13, row14, lengthRows, mapRows, pairRows}
+use Rattle.rows.specs.Rows.{windowRows, refusalsAt, guardRows}
 use Rattle.verify_theorems.proofs.Changed.{sorted, drawn, first-drawn}
 use Rattle.verify_theorems.proofs.LetsBy.{encoded-verifies}
 use Rattle.verify_theorems.proofs.Told.{halves}
-use Rattle.verify_theorems.specs.Examples.{Tabled, Wrong, wrong, unnamed, spare, leafless, faultOf, wrongs, imageHighS, apartS, verdict, ToldInOrder, Sound, SoundScenes, BeforeWords}
+use Rattle.verify_theorems.specs.Examples.{Tabled, Wrong, wrong, unnamed, spare, leafless, faultOf, wrongs, imageHighS, apartS}
+use Rattle.verify_theorems.specs.Examples.{verdict, ToldInOrder, Sound, SoundScenes, BeforeWords}
 use Rattle.verify_theorems.specs.Verified.{Guarding, Verifies}
 use Rattle.verify_rows.specs.Verifying.{liveRow, l1Rows, encodingRows, verifyRows}
 use Rattle.verify_rows.specs.Word.{row18, row19, leafRow, blockRow}
@@ -101,9 +103,11 @@ sound scene g =
     record { let-by = g; verifies = λ arena e. encoded-verifies arena baseS supS (layoutOf scene) g e }
 
 pub sound-scenes : SoundScenes
-unfolding layoutOf first flatMap eachFrom pairs row2 row3 row4 row5 row6 row7 row8 row9 row10 row13 row14 lengthRows mapRows pairRows windowRows refusalsAt guardRows
+unfolding layoutOf first flatMap eachFrom pairs row2 row3 row4 row5 row6 row7 row8 row9 row10 row13 row14 lengthRows mapRows pairRows
+    windowRows refusalsAt guardRows
 sound-scenes = record { S = sound sceneS refl; with-image = sound imageHighS refl; apart = sound apartS refl }
 
 pub before-words : BeforeWords
-unfolding layoutOf first flatMap eachFrom pairs row1 row2 row3 row4 row5 row6 row7 row8 row9 row10 lengthRows mapRows pairRows windowRows refusalsAt liveRow l1Rows encodingRows verifyRows row18
+unfolding layoutOf first flatMap eachFrom pairs row1 row2 row3 row4 row5 row6 row7 row8 row9 row10 lengthRows mapRows pairRows windowRows
+    refusalsAt liveRow l1Rows encodingRows verifyRows row18
 before-words = record { zeros = refl; layout = refl; maps = refl; arena = refl }

@@ -15,10 +15,12 @@ use Rattle.layout.specs.Size.{entries, tableCount, firstWord}
 use Rattle.layout.specs.declared.Layout.{Layout}
 use Rattle.refusal.specs.Table.{first, eachFrom, pairs}
 use Rattle.rows.specs.Examples.{baseS, supS, sceneS}
-use Rattle.rows.specs.Rows.{row2, row3, row4, row5, row6, row7, row8, row9, row10, row13, row14, lengthRows, mapRows, pairRows, windowRows, refusalsAt, guardRows}
+use Rattle.rows.specs.Rows.{row2, row3, row4, row5, row6, row7, row8, row9, row10, row13, row14, lengthRows, mapRows, pairRows, windowRows}
+use Rattle.rows.specs.Rows.{refusalsAt, guardRows}
 use Rattle.verify_rows.specs.Verifying.{word}
 use Rattle.verify_rows.specs.Word.{readPage, readBlock}
-use Rattle.verify_theorems.specs.Verified.{Guarding, Encoded, encodedWord, Kept, ReadAlike, EncodedVerifies, storedAt, LetsBy, LettingBy, SceneS}
+use Rattle.verify_theorems.specs.Verified.{Guarding, Encoded, encodedWord, Kept, ReadAlike, EncodedVerifies, storedAt, LetsBy}
+use Rattle.verify_theorems.specs.Verified.{LettingBy, SceneS}
 use Rattle.verify_theorems.proofs.Stored.{stored-word}
 use Rattle.verify_theorems.proofs.Told.{halves}
 use Rattle.verify_theorems.proofs.Verified.{alike-verifies}
@@ -104,7 +106,8 @@ letting-by arena base sup l j d guard e h =
     }
 
 guarding-S : Guarding baseS supS (layoutOf sceneS)
-unfolding layoutOf first flatMap eachFrom pairs row2 row3 row4 row5 row6 row7 row8 row9 row10 row13 row14 lengthRows mapRows pairRows windowRows refusalsAt guardRows
+unfolding layoutOf first flatMap eachFrom pairs row2 row3 row4 row5 row6 row7 row8 row9 row10 row13 row14 lengthRows mapRows pairRows
+    windowRows refusalsAt guardRows
 guarding-S = refl
 
 pub scene-S : SceneS

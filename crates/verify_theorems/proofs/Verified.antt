@@ -28,7 +28,8 @@ use Rattle.rows.specs.Rows.{row1, mapRows, refusalsAt, guardRows}
 use Rattle.target_word.proofs.Place.{in-2, in-3}
 use Rattle.verify_rows.proofs.Range.{nowhere}
 use Rattle.verify_rows.proofs.Read.{held-page, held-block, no-leaf-row, no-block-row, no-row18, no-row19, no-rows, no-other}
-use Rattle.verify_rows.specs.Verifying.{word, liveRow, liveAt, otherRow, otherRows, l1Rows, imageRows, dataRows, baseRow, pageRows, superRow, superRows, wantedBlock, deviceRow, deviceRows, encodingRows, verifyRows}
+use Rattle.verify_rows.specs.Verifying.{word, liveRow, liveAt, otherRow, otherRows, l1Rows, imageRows, dataRows, baseRow, pageRows}
+use Rattle.verify_rows.specs.Verifying.{superRow, superRows, wantedBlock, deviceRow, deviceRows, encodingRows, verifyRows}
 use Rattle.verify_rows.specs.Word.{readBlock}
 use Rattle.verify_theorems.specs.Verified.{Kept, ReadAlike, AlikeVerifies}
 use Rattle.verify_theorems.proofs.Areas.{Named, l1-word, l1-live, l1-none}

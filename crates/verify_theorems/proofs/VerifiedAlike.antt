@@ -27,7 +27,8 @@ use Rattle.rows.specs.Rows.{row1, mapRows, refusals}
 use Rattle.target_word.proofs.Place.{in-2, in-3}
 use Rattle.verify_rows.proofs.Range.{everywhere}
 use Rattle.verify_rows.proofs.Read.{held-page, held-block}
-use Rattle.verify_rows.specs.Verifying.{word, liveRow, windowAt, liveAt, otherRow, otherRows, l1Rows, imageRows, dataRows, baseRow, pageRows, superRow, superRows, wantedBlock, deviceRow, deviceRows, encodingRows, verifyRows}
+use Rattle.verify_rows.specs.Verifying.{word, liveRow, windowAt, liveAt, otherRow, otherRows, l1Rows, imageRows, dataRows, baseRow}
+use Rattle.verify_rows.specs.Verifying.{pageRows, superRow, superRows, wantedBlock, deviceRow, deviceRows, encodingRows, verifyRows}
 use Rattle.verify_rows.specs.Word.{readPage, readBlock, row18, row19}
 use Rattle.verify_theorems.specs.Verified.{encodedWord, Kept, VerifiedAlike}
 use Rattle.verify_theorems.proofs.Areas.{somebody, Named, l1-word, l1-live, l1-none}

@@ -61,7 +61,8 @@ abbrev pub Fields : Lfts 2 → RefT (List ℕ) → RefT (List ℕ) → Fml
 Fields κs s t = owns (Words (κs .0) ∷ Addresses (κs .1 .0) ∷ []) (s, (t, tt)) (wordsVal s ∷ [], (addressesVal t ∷ [], tt))
 
 -- the relation of a walker, from its fields'
-pub is-held : (κs : Lfts 2) (s t : RefT (List ℕ)) → Is (Words (κs .0)) s (wordsVal s ∷ []) → Is (Addresses (κs .1 .0)) t (addressesVal t ∷ []) → Is (B κs) (held s t) (T′.lowered (held s t) ∷ [])
+pub is-held : (κs : Lfts 2) (s t : RefT (List ℕ)) → Is (Words (κs .0)) s (wordsVal s ∷ [])
+    → Is (Addresses (κs .1 .0)) t (addressesVal t ∷ []) → Is (B κs) (held s t) (T′.lowered (held s t) ∷ [])
 is-held κs s t p q = ((wordsVal s ∷ [], (addressesVal t ∷ [], tt)), (refl, (p, (q, tt))))
 
 module _ {M : Type 1} (𝓤 : URA M) (H : Heap 𝓤) (A : Atoms 𝓤) (W : Given 𝓤 H A) (κs : Lfts 2) where
@@ -71,4 +72,6 @@ module _ {M : Type 1} (𝓤 : URA M) (H : Heap 𝓤) (A : Atoms 𝓤) (W : Given
   pub opens : (d : Walker) (u : Val) → ent 𝓤 (sem 𝓤 H A (B κs .own d (u ∷ []))) (sem 𝓤 H A (Fields κs (d .words) (d .tables)))
   opens d u =
       let vd : Values (D κs .parts) = (d .words, (d .tables, tt)) in
-      qed W (‵ (B κs .own d (u ∷ [])) ∷ []) ∵ use1 W (given (u ∷ [] ≡ vstruct (spelled (D κs .parts) (L κs) vd) ∷ []) (‵ (all-own (D κs .parts) (L κs) vd))) (own-open 𝓤 H A W (D κs) (L κs) vd u) $ learn ! (λ _. done !)
+      qed W (‵ (B κs .own d (u ∷ [])) ∷ []) ∵
+      use1 W (given (u ∷ [] ≡ vstruct (spelled (D κs .parts) (L κs) vd) ∷ []) (‵ (all-own (D κs .parts) (L κs) vd)))
+      (own-open 𝓤 H A W (D κs) (L κs) vd u) $ learn ! (λ _. done !)

@@ -25,7 +25,8 @@ ghost use Rattle.window_reach.specs.Granted.{deviceRegion, contains, byE
 
 // Rows 2 to 14 come first: the sums below serve accepted layouts alone.
 pub fn window_reach(base: &[u8], sup: &[u8], l: Layout, ipa: u64) -> Walked
-    ensures { λ r. ⌜ toldOf r ≡ after (first (guardRows boardLimit (now (base .entry)) (now (sup .entry)) l)) (granted l (now (base .entry)) (now (sup .entry)) ipa) ⌝ }
+    ensures { λ r. ⌜ toldOf r ≡ after (first (guardRows boardLimit (now (base .entry)) (now (sup .entry)) l))
+        (granted l (now (base .entry)) (now (sup .entry)) ipa) ⌝ }
 {
     let verdict = guard::guard_maps_at(Layout::BOARD_LIMIT, base, sup, l);
     match verdict {

@@ -74,7 +74,8 @@ returns c =
     let a = w .before .before .args in
     let rows = reachRows (now (a .frames)) (map grantOf (now (a .grants))) (a .dom) in
     let narrow = v .all-within .ensures (c .if1 .taken) in
-    sym (accept _ (from-nowhere rows (now (a .leaves)) 0 (λ m inside. within _ _ _ _ _ (rw (w .widest-entries .ensures m inside) at (narrow m inside)))))
+    sym (accept _ (from-nowhere rows (now (a .leaves)) 0
+    (λ m inside. within _ _ _ _ _ (rw (w .widest-entries .ensures m inside) at (narrow m inside)))))
 
 loop-holds : tie.Need-loop-holds Inv-loop μ-loop
 loop-holds c = refl

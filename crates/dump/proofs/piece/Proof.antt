@@ -19,7 +19,8 @@ unfolding pieceAt
 returns c =
     let e = c .before .before .before in
     let a = e .before .before .before .args in
-    let text = ap (λ x. pieceAt x (now (a .words)) (a .i)) (e .enum-told .given .1) ∙ alone-first badLine (a .i) (c .before .before .if1 .taken) in
+    let text = ap (λ x. pieceAt x (now (a .words)) (a .i)) (e .enum-told .given .1)
+    ∙ alone-first badLine (a .i) (c .before .before .if1 .taken) in
     rw text (c .bad-line .ensures)
 
 enum-known-answer : tie.Need-enum-known-answer
@@ -33,7 +34,8 @@ unfolding pieceAt
 returns-2 c =
     let e = c .before .before .before .before in
     let a = e .before .before .before .args in
-    let text = ap (λ x. pieceAt x (now (a .words)) (a .i)) (e .answer .given .1) ∙ alone-first (refusedLine _) (a .i) (c .before .before .if2 .taken) in
+    let text = ap (λ x. pieceAt x (now (a .words)) (a .i)) (e .answer .given .1)
+    ∙ alone-first (refusedLine _) (a .i) (c .before .before .if2 .taken) in
     rw text (c .refused-line .ensures)
 
 enum-told-2 : tie.Need-enum-told-2

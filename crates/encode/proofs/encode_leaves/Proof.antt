@@ -40,7 +40,8 @@ returns c =
     let pages = super .before .before .before .before in
     let l = pages .before .before .before .before .before .args .l in
     let blocks =
-    over-runs _ (deviceRun 6 (deviceWindow l) ∷ []) _ _ (ap (λ w. deviceRun 6 w ∷ []) (w .device-window .ensures)) (device .put-device .ensures) in
+    over-runs _ (deviceRun 6 (deviceWindow l) ∷ []) _ _ (ap (λ w. deviceRun 6 w ∷ []) (w .device-window .ensures))
+    (device .put-device .ensures) in
     over-append (_ ∷ []) (_ ∷ _ ∷ []) _ _ _ (pages .put-pages .ensures)
     (over-append (_ ∷ []) (_ ∷ []) _ _ _ (super .encode-super .ensures) blocks)
 

@@ -62,7 +62,8 @@ loop-again c =
     let within : i < length (edgesOf rows) = rw (length-map rows edgeOf) (in-loop .loop-test .taken) in
     let read = o .of .ensures ∙ sym (List·getD-map edgeOf rows i []) in (
       v .note .kept .0 ∙ h .loop .inv .0,
-      one-noted (now (a .frames)) (a .dom) (a .span) (edgesOf rows) i (h .loop .wanted) (v .note .last .0) (edgeOf []) within (h .loop .inv .1)
+      one-noted (now (a .frames)) (a .dom) (a .span) (edgesOf rows) i (h .loop .wanted) (v .note .last .0) (edgeOf []) within
+          (h .loop .inv .1)
           (λ m inside.
           let fits : m < length (h .loop .wanted) = omega (arith, inside, h .loop .inv .0) in
           v .note .ensures m fits ∙ ap (afterEdge (now (a .frames)) (a .dom) (a .span) m (getD (h .loop .wanted) m 0)) read),

@@ -1,7 +1,8 @@
 -- `check_exact` meets its contract: a walk of its MIR, by hand. The wanted entries stand in a local, which each turn of the loop lends to
 -- `note` beside a copy of one edge; after the call they are back (`Local.antt`). Between two calls a turn carries facts about them and owns
 -- nothing. All that the proof knows of the functions called is that they meet their contracts. Numbers, spans and edges own facts alone,
--- had anew where a call asks for them (`owned`); the slices are `&`, had twice where a call takes one. At exit nothing is had of a parameter.
+-- had anew where a call asks for them (`owned`); the slices are `&`, had twice where a call takes one. At exit nothing is had of a
+-- parameter.
 -- Assumes nothing.
 use mathlib.Core.Path.{_≡_, refl, sym, _∙_, subst}
 use Prim.Native.Nat.{ℕ, _+_, _-_, _*_, _≤_, _<_, _^_, zero-le}
@@ -27,9 +28,12 @@ use prog.Wp.{Heap, Out, Env, afterSeq, afterBlock, afterTurn, Calls, Loops, Wp, 
 use ghost.Atoms.{Atoms, sem}
 use contract.Monad.{Fun, fact}
 use contract.Running.{givenOf, tables, tablesOf}
-use types.Kit.{Given, Item, ‵, raw, given, _⊛_, some, later, mean, ⋆, runs, anyQ, atRet, Sq, _$_, _∵_, !, qed, by, move, keep, drop, use0, use1, use2, split, join, group, pick, learn, rewrite, fsplit, fjoin, suffices, frame, show, check, await, done}
+use types.Kit.{Given, Item, ‵, raw, given, _⊛_, some, later, mean, ⋆, runs, anyQ, atRet, Sq, _$_, _∵_, !, qed, by, move, keep, drop, use0}
+use types.Kit.{use1, use2, split, join, group, pick, learn, rewrite, fsplit, fjoin, suffices, frame, show, check, await, done}
 use types.Part.{agg, whole, sub, look-in}
-use types.Run.{look, look-raw, store, init, forget, stop, hop, fld, from, load, addr, lit, of-opd, bin, and-then, no-more, assigns, assigns-last, first, blocks, land, stays, leaves-loop, returns, enter, alloc1, alloc0, params1, pass1, pass0, free1, free0, exec, Below, again, loops}
+use types.Run.{look, look-raw, store, init, forget, stop, hop, fld, from, load, addr, lit, of-opd, bin, and-then, no-more, assigns}
+use types.Run.{assigns-last, first, blocks, land, stays, leaves-loop, returns, enter, alloc1, alloc0, params1, pass1, pass0, free1, free0}
+use types.Run.{exec, Below, again, loops}
 use sound.WpLaws.{FmC, fmOf, WpFn-mono}
 use denote.RattleType.{RattleType, owns}
 use denote.Laws.{Is, shows}
@@ -110,7 +114,8 @@ module _ {M : Type 1} (𝓤 : URA M) (H : Heap 𝓤) (A : Atoms 𝓤) (mem : Mem
 
 module _
     {M : Type 1} (𝓤 : URA M) (H : Heap 𝓤) (A : Atoms 𝓤) (W : Given 𝓤 H A) (mem : Memory → SProp 𝓤) (run : Routine → Fun 𝓤)
-    (κ₀ κ₁ κ₂ : Lft) (q₀ q₁ q₂ : Share) (dom : ℕ) (leaves : RefT (List ℕ)) (span : Span) (b o : ℕ) (γ : GName) (es : List Edge) (frames : RefT (List (List ℕ)))
+    (κ₀ κ₁ κ₂ : Lft) (q₀ q₁ q₂ : Share) (dom : ℕ) (leaves : RefT (List ℕ)) (span : Span) (b o : ℕ) (γ : GName) (es : List Edge)
+    (frames : RefT (List (List ℕ)))
   where
     abbrev n : ℕ
     n = length es
@@ -161,15 +166,26 @@ module _
       wv l = sliceVal (l, 0) entries
 
       abbrev to-note : ℕ → ℕ → GName → List ℕ → Edge → Note 𝓤 H A mem run .Ghost
-      to-note l ν δ xs e = (((ν ∷ [], (κ₂, tt)), (fullShare, (q₂, tt)), tt, (elements u8 entries l δ xs, (e, (dom, (span, (frames, tt))))), (wv l ∷ [], (E′.lowered e ∷ [], (vint w16 dom ∷ [], (sv ∷ [], (fv ∷ [], tt)))))), tt)
+      to-note l ν δ xs e = (
+        (
+          (ν ∷ [], (κ₂, tt)),
+          (fullShare, (q₂, tt)),
+          tt,
+          (elements u8 entries l δ xs, (e, (dom, (span, (frames, tt))))),
+          (wv l ∷ [], (E′.lowered e ∷ [], (vint w16 dom ∷ [], (sv ∷ [], (fv ∷ [], tt))))),
+        ),
+        tt,
+      )
 
       abbrev WantedOwn : ℕ → ℕ → GName → List ℕ → Fml
       WantedOwn l ν δ xs = MutSlice (named 0) (ν ∷ []) u8 .own (elements u8 entries l δ xs) (wv l ∷ [])
 
       asks-note : (l ν : ℕ) (δ : GName) (xs : List ℕ) (e : Edge) → Is E.the-row e (E′.lowered e ∷ [])
-          → ent 𝓤 (⋆ 𝓤 H A (‵ (flft (ν ∷ []) fullShare) ∷ ‵ (flft κ₂ q₂) ∷ ‵ (WantedOwn l ν δ xs) ∷ ‵ FramesOwn ∷ [])) (Note 𝓤 H A mem run .pre (to-note l ν δ xs e))
+          → ent 𝓤 (⋆ 𝓤 H A (‵ (flft (ν ∷ []) fullShare) ∷ ‵ (flft κ₂ q₂) ∷ ‵ (WantedOwn l ν δ xs) ∷ ‵ FramesOwn ∷ []))
+          (Note 𝓤 H A mem run .pre (to-note l ν δ xs e))
       asks-note l ν δ xs e is-e =
-          qed W (‵ (flft (ν ∷ []) fullShare) ∷ ‵ (flft κ₂ q₂) ∷ ‵ (WantedOwn l ν δ xs) ∷ ‵ FramesOwn ∷ []) ∵ nothing ! $ move ! (4 ∷ 0 ∷ []) $ fjoin ! $
+          qed W (‵ (flft (ν ∷ []) fullShare) ∷ ‵ (flft κ₂ q₂) ∷ ‵ (WantedOwn l ν δ xs) ∷ ‵ FramesOwn ∷ []) ∵ nothing ! $
+          move ! (4 ∷ 0 ∷ []) $ fjoin ! $
           owned ! S.the-row (Is S.the-row) (EL.makes S.the-type S′.the-plain 𝓤 H A) span _ is-span $ fjoin ! $
           owned ! u16 (Is u16) (uint-makes 𝓤 H A W w16) dom _ (refl, is-dom) $ fjoin ! $
           owned ! E.the-row (Is E.the-row) (LL.makes E.the-type E′.the-plain 𝓤 H A) e _ is-e $ fjoin ! $ move ! (3 ∷ 0 ∷ []) $ fjoin ! $
@@ -177,19 +193,31 @@ module _
           nothing ! $ move ! (3 ∷ 0 ∷ []) $ join ! $ move ! (2 ∷ 0 ∷ []) $ join ! $ join ! $ frame ! $ done !
 
       abbrev to-compare : List ℕ → Val → Compare 𝓤 H A mem run .Ghost
-      to-compare xs v = (((κ₀, tt), (q₀, tt), tt, (dom, (leaves, (span, (xs, tt)))), (vint w16 dom ∷ [], (lv ∷ [], (sv ∷ [], (v ∷ [], tt))))), tt)
+      to-compare xs v = (
+        (
+          (κ₀, tt),
+          (q₀, tt),
+          tt,
+          (dom, (leaves, (span, (xs, tt)))),
+          (vint w16 dom ∷ [], (lv ∷ [], (sv ∷ [], (v ∷ [], tt)))),
+        ),
+        tt,
+      )
 
-      asks-compare : (xs : List ℕ) (v : Val) → Is Entries xs (v ∷ []) → ent 𝓤 (sep 𝓤 (A .lft κ₀ q₀) (sem 𝓤 H A LeavesOwn)) (Compare 𝓤 H A mem run .pre (to-compare xs v))
+      asks-compare : (xs : List ℕ) (v : Val) → Is Entries xs (v ∷ [])
+          → ent 𝓤 (sep 𝓤 (A .lft κ₀ q₀) (sem 𝓤 H A LeavesOwn)) (Compare 𝓤 H A mem run .pre (to-compare xs v))
       asks-compare xs v is-xs =
           qed W (‵ (flft κ₀ q₀) ∷ ‵ LeavesOwn ∷ []) ∵ nothing ! $
           owned ! Entries (Is Entries) (array-makes 𝓤 H A W u8 (uint-makes 𝓤 H A W w8) entries) xs _ is-xs $ fjoin ! $
-          owned ! S.the-row (Is S.the-row) (EL.makes S.the-type S′.the-plain 𝓤 H A) span _ is-span $ fjoin ! $ move ! (2 ∷ 0 ∷ []) $ fjoin ! $
+          owned ! S.the-row (Is S.the-row) (EL.makes S.the-type S′.the-plain 𝓤 H A) span _ is-span $ fjoin ! $ move ! (2 ∷ 0 ∷ []) $
+          fjoin ! $
           owned ! u16 (Is u16) (uint-makes 𝓤 H A W w16) dom _ (refl, is-dom) $ fjoin ! $
           -- [what the arguments own; the token]
           nothing ! $ move ! (2 ∷ 0 ∷ []) $ join ! $ join ! $ frame ! $ done !
 
       -- of a callee's `ensured`, the clause, and of `note`'s the last entries
-      says-unmapped : (r : List ℕ) → ent 𝓤 (ensured 𝓤 H A unmapped.ended (unmapped.clauses 𝓤 H A mem run) tt tt tt r) (fact 𝓤 (r ≡ replicate entries 0))
+      says-unmapped : (r : List ℕ) → ent 𝓤 (ensured 𝓤 H A unmapped.ended (unmapped.clauses 𝓤 H A mem run) tt tt tt r)
+          (fact 𝓤 (r ≡ replicate entries 0))
       says-unmapped r = exE 𝓤 _ (λ ws. snd∗ 𝓤 (sem 𝓤 H A (lasts unmapped.ended tt tt ws)) _)
 
       abbrev After : List ℕ → Edge → List ℕ → Type 0
@@ -199,26 +227,33 @@ module _
       Left δ xs e = some (λ (zs : List ℕ). given (After xs e zs) (‵ (finally u8 δ zs)))
 
       says-note : (l ν : ℕ) (δ : GName) (xs : List ℕ) (e : Edge) (r : Unit {0})
-          → ent 𝓤 (ensured 𝓤 H A note.ended (note.clauses 𝓤 H A mem run) (ν ∷ [], (κ₂, tt)) (elements u8 entries l δ xs, (e, (dom, (span, (frames, tt))))) tt r) (mean 𝓤 H A (Left δ xs e))
+          → ent 𝓤 (ensured 𝓤 H A note.ended (note.clauses 𝓤 H A mem run) (ν ∷ [], (κ₂, tt))
+          (elements u8 entries l δ xs, (e, (dom, (span, (frames, tt))))) tt r) (mean 𝓤 H A (Left δ xs e))
       says-note l ν δ xs e r = exE 𝓤 _ (λ ws.
-          qed W (‵ (lasts note.ended (ν ∷ [], (κ₂, tt)) (elements u8 entries l δ xs, (e, (dom, (span, (frames, tt))))) ws) ∷ raw (fact 𝓤 (After xs e (ws .0))) ∷ []) ∵
+          qed W (‵ (lasts note.ended (ν ∷ [], (κ₂, tt)) (elements u8 entries l δ xs, (e, (dom, (span, (frames, tt))))) ws)
+          ∷ raw (fact 𝓤 (After xs e (ws .0))) ∷ []) ∵
           move ! (1 ∷ []) $ heard ! _ (λ after. fsplit ! $ fsplit ! $
-          show ! (λ (zs : List ℕ). mean 𝓤 H A (given (After xs e zs) (‵ (finally u8 δ zs)))) (ws .0) $ check ! after $ keep ! (0 ∷ []) $ done !))
+          show ! (λ (zs : List ℕ). mean 𝓤 H A (given (After xs e zs) (‵ (finally u8 δ zs)))) (ws .0) $ check ! after $ keep ! (0 ∷ []) $
+          done !))
 
       abbrev Compared : List ℕ → Verdict → Type 0
       Compared xs r = outcomeOf r ≡ firstRow (comparedRows dom span (λ m. getD xs m 0) (now leaves))
 
-      says-compare : (xs : List ℕ) (r : Verdict) → ent 𝓤 (ensured 𝓤 H A compare.ended (compare.clauses 𝓤 H A mem run) (κ₀, tt) (dom, (leaves, (span, (xs, tt)))) tt r) (fact 𝓤 (Compared xs r))
+      says-compare : (xs : List ℕ) (r : Verdict)
+          → ent 𝓤 (ensured 𝓤 H A compare.ended (compare.clauses 𝓤 H A mem run) (κ₀, tt) (dom, (leaves, (span, (xs, tt)))) tt r)
+          (fact 𝓤 (Compared xs r))
       says-compare xs r = exE 𝓤 _ (λ ws. snd∗ 𝓤 (sem 𝓤 H A (lasts compare.ended (κ₀, tt) (dom, (leaves, (span, (xs, tt)))) ws)) _)
 
       exits : (r : Verdict) (u : Val) → outcomeOf r ≡ firstRow (exactRows (now frames) dom span es (now leaves))
           → ent 𝓤 (⋆ 𝓤 H A (‵ (flft κ₀ q₀) ∷ ‵ (flft κ₁ q₁) ∷ ‵ (flft κ₂ q₂) ∷ ‵ (R.the-row .own r (u ∷ [])) ∷ [])) (Post u)
       exits r u e =
           qed W (‵ (flft κ₀ q₀) ∷ ‵ (flft κ₁ q₁) ∷ ‵ (flft κ₂ q₂) ∷ ‵ (R.the-row .own r (u ∷ [])) ∷ []) ∵
-          suffices ! _ (ends-at 𝓤 H A check.ended stayed (check.clauses 𝓤 H A mem run) W bound u r (tt, (tt, (tt, (tt, (tt, tt))))) (tt, (tt, (tt, (tt, (tt, tt)))))) $ says ! e $
+          suffices ! _ (ends-at 𝓤 H A check.ended stayed (check.clauses 𝓤 H A mem run) W bound u r (tt, (tt, (tt, (tt, (tt, tt)))))
+          (tt, (tt, (tt, (tt, (tt, tt)))))) $ says ! e $
           nothing ! $ move ! (3 ∷ 0 ∷ []) $ join ! $ move ! (2 ∷ 0 ∷ []) $ join ! $ move ! (1 ∷ 0 ∷ []) $ join ! $ frame ! $
           -- [the result]: of the five parameters nothing is had
-          nothing ! $ nothing ! $ fjoin ! $ nothing ! $ fjoin ! $ nothing ! $ fjoin ! $ nothing ! $ fjoin ! $ nothing ! $ fjoin ! $ frame ! $ done !
+          nothing ! $ nothing ! $ fjoin ! $ nothing ! $ fjoin ! $ nothing ! $ fjoin ! $ nothing ! $ fjoin ! $ nothing ! $ fjoin ! $
+          frame ! $ done !
 
       typed : (xs : List ℕ) (v : Val) → Is Entries xs (v ∷ []) → Holds (hasTy (tyArray (tyInt w8) entries) v) × WT v
       typed xs v is-xs = array-lawful 𝓤 H A W u8 (uint-lawful 𝓤 H A W w8) entries .typed xs (v ∷ []) is-xs .0
@@ -243,7 +278,8 @@ module _
       nearer-wf = InvImage·wf (λ (s : State). n - s .0) (Nat·lt-wfRel .wf)
 
       module _
-          (𝓣 : Tables 𝓤 H) (fm : FmC 𝓤 H (W .laws) (𝓣 .C)) (known-note : Triple 𝓤 (𝓣 .C #note) (Note 𝓤 H A mem run)) (known-compare : Triple 𝓤 (𝓣 .C #compare) (Compare 𝓤 H A mem run))
+          (𝓣 : Tables 𝓤 H) (fm : FmC 𝓤 H (W .laws) (𝓣 .C)) (known-note : Triple 𝓤 (𝓣 .C #note) (Note 𝓤 H A mem run))
+          (known-compare : Triple 𝓤 (𝓣 .C #compare) (Compare 𝓤 H A mem run))
           (room : Room E.the-row n) (l₀ l₁ l₂ l₃ l₄ l₅ l₆ l₇ l₈ l₉ l₁₀ l₁₁ l₁₂ l₁₃ l₁₄ l₁₅ l₁₆ : ℕ)
         where
           abbrev C : Calls 𝓤 H
@@ -279,7 +315,8 @@ module _
               (R′.mir, l₀) ∷ (tyInt w16, l₁) ∷ (τ₂, l₂) ∷ (S′.mir, l₃) ∷ (τ₄, l₄) ∷ (τ₅, l₅) ∷ (τ₆, l₆) ∷ (word, l₇) ∷ (τ₆, l₈)
               ∷ (word, l₉) ∷ (tyBool, l₁₀) ∷ (tyUnit, l₁₁) ∷ (τ₁₂, l₁₂) ∷ (τ₁₃, l₁₃) ∷ (word, l₁₄) ∷ (tyPtr, l₁₅) ∷ (E′.mir, l₁₆) ∷ []
 
-          -- [_6; _7; room for _10 to _16 and _8; _9; _1; _2; _3; _4; _5; room for _0; three tokens; what the three slices own; that each local dies]
+          -- [_6; _7; room for _10 to _16 and _8; _9; _1; _2; _3; _4; _5; room for _0; three tokens; what the three slices own; that each
+          -- local dies]
           abbrev At : State → List (Item 𝓤)
           At s =
               ‵ (fat fullShare τ₆ l₆ 0 (s .1 .1 .0)) ∷ ‵ (fat fullShare word l₇ 0 (vint w64 (s .0)))
@@ -307,40 +344,77 @@ module _
               let xs = s .1 .0 in
               let v = s .1 .1 .0 in
               let e = getD es i (edgeOf []) in
-              assigns ! (bin ! (load ! (from ! (stop !)) (look ! 1 refl)) (load ! (from ! (stop !)) (look ! 10 refl)) tt) (from ! (stop !)) (init ! 2 refl (tt, tt)) $
-              rewrite ! 2 (λ (t : Bool). ‵ (fat fullShare tyBool l₁₀ 0 (vbool t))) (lt-ltb i n within) refl $ stays ! (load ! (from ! (stop !)) (look ! 2 refl)) $
+              assigns ! (bin ! (load ! (from ! (stop !)) (look ! 1 refl)) (load ! (from ! (stop !)) (look ! 10 refl)) tt) (from ! (stop !))
+              (init ! 2 refl (tt, tt)) $
+              rewrite ! 2 (λ (t : Bool). ‵ (fat fullShare tyBool l₁₀ 0 (vbool t))) (lt-ltb i n within) refl $
+              stays ! (load ! (from ! (stop !)) (look ! 2 refl)) $
               -- _13 is the slice of wanted, and _15 the address of the edge
               assigns ! (addr ! (from ! (stop !))) (from ! (stop !)) (init ! 4 refl (tt, tt)) $
-              assigns ! (agg ! (and-then ! (load ! (from ! (stop !)) (look ! 4 refl)) (and-then ! (lit ! tt) (no-more !)))) (from ! (stop !)) (init ! 5 refl (tt, (tt, (record { fits = lit< tt }, tt)))) $
-              assigns ! (bin ! (load ! (from ! (stop !)) (look ! 1 refl)) (lit ! tt) (record { fits = offset-fits })) (from ! (stop !)) (init ! 6 refl (tt, record { fits = offset-fits })) $
-              assigns ! (bin ! (load ! (from ! (fld ! refl (stop !))) (look-in ! 14 (sub ! 0 refl (whole !)))) (load ! (from ! (stop !)) (look ! 6 refl)) tt) (from ! (stop !)) (init ! 7 refl (tt, tt)) $
+              assigns ! (agg ! (and-then ! (load ! (from ! (stop !)) (look ! 4 refl)) (and-then ! (lit ! tt) (no-more !))))
+              (from ! (stop !)) (init ! 5 refl (tt, (tt, (record { fits = lit< tt }, tt)))) $
+              assigns ! (bin ! (load ! (from ! (stop !)) (look ! 1 refl)) (lit ! tt) (record { fits = offset-fits })) (from ! (stop !))
+              (init ! 6 refl (tt, record { fits = offset-fits })) $
+              assigns ! (bin ! (load ! (from ! (fld ! refl (stop !))) (look-in ! 14 (sub ! 0 refl (whole !))))
+              (load ! (from ! (stop !)) (look ! 6 refl)) tt) (from ! (stop !)) (init ! 7 refl (tt, tt)) $
               rewrite ! 7 (λ (p : ℕ). ‵ (fat fullShare tyPtr l₁₅ 0 (vptr b p))) (sym (place-is 16 o i)) refl $
               -- the edge is copied
-              move ! (21 ∷ 18 ∷ []) $ element E.the-row (LL.vals E.the-type E′.the-laws) (named 1) κ₁ q₁ edges i (edgeOf []) ! tt within (LL.tells E.the-type E′.the-laws) (LL.copy E.the-type E′.the-copy 𝓤 H A W) (λ q′ is-e.
+              move ! (21 ∷ 18 ∷ []) $ element E.the-row (LL.vals E.the-type E′.the-laws) (named 1) κ₁ q₁ edges i (edgeOf []) ! tt within
+              (LL.tells E.the-type E′.the-laws) (LL.copy E.the-type E′.the-copy 𝓤 H A W) (λ q′ is-e.
               -- [the edge; what shuts it; _6; _7; _10; …]
-              assigns ! (of-opd ! (load ! (from ! (hop ! (look ! 9 refl) (stop !))) (look-raw ! 0 refl))) (from ! (stop !)) (init ! 10 refl (LL.lawful E.the-type E′.the-laws 𝓤 H A W .typed e _ is-e .0)) $
+              assigns ! (of-opd ! (load ! (from ! (hop ! (look ! 9 refl) (stop !))) (look-raw ! 0 refl))) (from ! (stop !))
+              (init ! 10 refl (LL.lawful E.the-type E′.the-laws 𝓤 H A W .typed e _ is-e .0)) $
               shut E.the-row (LL.vals E.the-type E′.the-laws) (named 1) κ₁ q₁ edges i (edgeOf []) ! tt within q′ $
               -- [what edges owns; κ₁'s token; _6; …; _0; κ₀'s, κ₂'s; what leaves and frames own; …]: wanted is lent
-              move ! (2 ∷ []) $ lends-local u8 entries l₆ ! tt (named 0) xs (v ∷ []) tt (lit< tt, lit< tt) (uint-makes 𝓤 H A W w8) (is-entries s) (λ ν δ.
-              -- [ν's token; wanted, lent; what is kept of it; what edges owns; κ₁'s; _7; …; _0; κ₀'s, κ₂'s; what leaves and frames own; …]: what frames owns is had twice
-              move ! (24 ∷ []) $ use1 W (‵ FramesOwn ⊛ ‵ FramesOwn) (shr-slice-copy 𝓤 H A W (named 2) κ₂ Frame .twice frames (fv ∷ [])) $ split ! $ move ! (2 ∷ 24 ∷ 3 ∷ 0 ∷ []) $ group ! 4 $
+              move ! (2 ∷ []) $ lends-local u8 entries l₆ ! tt (named 0) xs (v ∷ []) tt (lit< tt, lit< tt) (uint-makes 𝓤 H A W w8)
+              (is-entries s) (λ ν δ.
+              -- [ν's token; wanted, lent; what is kept of it; what edges owns; κ₁'s; _7; …; _0; κ₀'s, κ₂'s; what leaves and frames own; …]:
+              -- what frames owns is had twice
+              move ! (24 ∷ []) $ use1 W (‵ FramesOwn ⊛ ‵ FramesOwn) (shr-slice-copy 𝓤 H A W (named 2) κ₂ Frame .twice frames (fv ∷ [])) $
+              split ! $ move ! (2 ∷ 24 ∷ 3 ∷ 0 ∷ []) $ group ! 4 $
               use1 W (raw (Note 𝓤 H A mem run .pre (to-note l₆ ν δ xs e))) (asks-note l₆ ν δ xs e is-e) $
-              -- [what `note` asks; what frames owns; what is kept of wanted; what edges owns; κ₁'s token; _7; _10; _11; _12; _13; _14; _15; _16; _8; _9; _1; _2; _3; _4; _5; _0; κ₀'s; what leaves owns; …]
+              -- [what `note` asks; what frames owns; what is kept of wanted; what edges owns; κ₁'s token; _7; _10; _11; _12; _13; _14; _15;
+              -- _16; _8; _9; _1; _2; _3; _4; _5; _0; κ₀'s; what leaves owns; …]
               calls-at ! fm (Note 𝓤 H A mem run) known-note (to-note l₆ ν δ xs e)
-              (and-then ! (load ! (from ! (stop !)) (look ! 9 refl)) (and-then ! (load ! (from ! (stop !)) (look ! 12 refl)) (and-then ! (load ! (from ! (stop !)) (look ! 15 refl)) (and-then ! (load ! (from ! (stop !)) (look ! 17 refl)) (and-then ! (load ! (from ! (stop !)) (look ! 19 refl)) (no-more !)))))) (λ u.
-              use1 W (later (some (λ (r : Unit {0}). ((‵ (flft (ν ∷ []) fullShare) ⊛ (‵ (flft κ₂ q₂) ⊛ ‵ ftrue)) ⊛ ‵ (unit .own r (u ∷ []))) ⊛ raw (ensured 𝓤 H A note.ended (note.clauses 𝓤 H A mem run) (ν ∷ [], (κ₂, tt)) (elements u8 entries l₆ δ xs, (e, (dom, (span, (frames, tt))))) tt r)))) (id⊢ 𝓤 _) $ await ! tt $ pick ! (λ r.
-              split ! $ move ! (1 ∷ []) $ use1 W (Left δ xs e) (says-note l₆ ν δ xs e r) $ pick ! (λ zs. learn ! (λ after. move ! (1 ∷ []) $ split ! $ move ! (1 ∷ []) $
+              (and-then ! (load ! (from ! (stop !)) (look ! 9 refl))
+              (and-then ! (load ! (from ! (stop !)) (look ! 12 refl))
+              (and-then ! (load ! (from ! (stop !)) (look ! 15 refl))
+              (and-then ! (load ! (from ! (stop !)) (look ! 17 refl))
+              (and-then ! (load ! (from ! (stop !)) (look ! 19 refl)) (no-more !)))))) (λ u.
+              use1 W (later (some (λ (r : Unit {0}). ((‵ (flft (ν ∷ []) fullShare) ⊛ (‵ (flft κ₂ q₂) ⊛ ‵ ftrue)) ⊛ ‵ (unit .own r (u ∷ [])))
+              ⊛ raw (ensured 𝓤 H A note.ended (note.clauses 𝓤 H A mem run) (ν ∷ [], (κ₂, tt))
+              (elements u8 entries l₆ δ xs, (e, (dom, (span, (frames, tt))))) tt r)))) (id⊢ 𝓤 _) $ await ! tt $ pick ! (λ r.
+              split ! $ move ! (1 ∷ []) $ use1 W (Left δ xs e) (says-note l₆ ν δ xs e r) $
+              pick ! (λ zs. learn ! (λ after. move ! (1 ∷ []) $ split ! $ move ! (1 ∷ []) $
               facts ! unit (Is unit) (shows 𝓤 H A unit) r (u ∷ []) (λ is-r.
               -- [the two tokens; the last entries; what frames owns; what is kept of wanted; what edges owns; κ₁'s; _7; _10; _11; …]
-              land ! (from ! (stop !)) (init ! 8 refl (nothing-lawful 𝓤 H A W .typed r (u ∷ []) is-r .0)) $ split ! $ move ! (1 ∷ []) $ split ! $
+              land ! (from ! (stop !)) (init ! 8 refl (nothing-lawful 𝓤 H A W .typed r (u ∷ []) is-r .0)) $ split ! $ move ! (1 ∷ []) $
+              split ! $
               -- [κ₂'s token; true; ν's; the last entries; what frames owns; what is kept of wanted; …]: wanted is back
-              move ! (2 ∷ 5 ∷ 3 ∷ []) $ local-back u8 entries l₆ ! tt (uint-vals w8) (uint-tells w8) ν δ zs (λ is-zs. move ! (2 ∷ []) $ drop ! $
+              move ! (2 ∷ 5 ∷ 3 ∷ []) $ local-back u8 entries l₆ ! tt (uint-vals w8) (uint-tells w8) ν δ zs (λ is-zs.
+              move ! (2 ∷ []) $ drop ! $
               -- [_6; κ₂'s token; what frames and edges own; κ₁'s; _7; _10; …; _16; _8; _9; _1; …; _5; _0; κ₀'s; what leaves owns; …]
-              assigns-last ! (bin ! (load ! (from ! (stop !)) (look ! 5 refl)) (lit ! tt) (record { fits = next-fits })) (from ! (stop !)) (store ! 5 refl (tt, record { fits = next-fits })) $
-              forget ! 6 refl $ forget ! 7 refl $ forget ! 8 refl $ forget ! 9 refl $ forget ! 10 refl $ forget ! 11 refl $ forget ! 12 refl $
+              assigns-last ! (bin ! (load ! (from ! (stop !)) (look ! 5 refl)) (lit ! tt) (record { fits = next-fits })) (from ! (stop !))
+              (store ! 5 refl (tt, record { fits = next-fits })) $
+              forget ! 6 refl $ forget ! 7 refl $ forget ! 8 refl $ forget ! 9 refl $ forget ! 10 refl $ forget ! 11 refl $
+              forget ! 12 refl $
               move ! (0 ∷ 5 ∷ 6 ∷ 7 ∷ 8 ∷ 9 ∷ 10 ∷ 11 ∷ 12 ∷ 13 ∷ 14 ∷ 15 ∷ 16 ∷ 17 ∷ 18 ∷ 19 ∷ 20 ∷ 21 ∷ 4 ∷ 1 ∷ 22 ∷ 3 ∷ 2 ∷ []) $
-              again ! Nearer At s
-              (i + 1, (zs, (_, (add-one-le within, (is-zs, one-noted (now frames) dom span es i xs zs (edgeOf []) within (noted-to s) (λ m inside. after m (subst (λ (k : ℕ). m < k) (sym (all-entries s)) inside)))))))
+              again ! Nearer At s (
+                i + 1,
+                (
+                  zs,
+                  (
+                    _,
+                    (
+                      add-one-le within,
+                      (
+                        is-zs,
+                        one-noted (now frames) dom span es i xs zs (edgeOf []) within (noted-to s)
+                            (λ m inside. after m (subst (λ (k : ℕ). m < k) (sym (all-entries s)) inside)),
+                      ),
+                    ),
+                  ),
+                ),
+              )
               (add-one-dec n i within)))))))))
             where
               offset-fits : s .0 * 16 < 2 ^ 64
@@ -350,16 +424,22 @@ module _
               next-fits = lt-of-le-of-lt (add-one-le within) (room .0)
 
           -- the result is read, and each local's room goes with what says that it dies
-          freed : (r : Verdict) (u : Val) → ent 𝓤 (⋆ 𝓤 H A (‵ (flft κ₀ q₀) ∷ ‵ (flft κ₁ q₁) ∷ ‵ (flft κ₂ q₂) ∷ ‵ (R.the-row .own r (u ∷ [])) ∷ [])) (Post u)
+          freed : (r : Verdict) (u : Val)
+              → ent 𝓤 (⋆ 𝓤 H A (‵ (flft κ₀ q₀) ∷ ‵ (flft κ₁ q₁) ∷ ‵ (flft κ₂ q₂) ∷ ‵ (R.the-row .own r (u ∷ [])) ∷ [])) (Post u)
               → Sq W
-              (‵ (fat fullShare R′.mir l₀ 0 u) ∷ ‵ (fdies R′.mir l₀) ∷ ‵ (froom (tyInt w16) l₁ 0) ∷ ‵ (fdies (tyInt w16) l₁) ∷ ‵ (froom τ₂ l₂ 0) ∷ ‵ (fdies τ₂ l₂)
+              (‵ (fat fullShare R′.mir l₀ 0 u) ∷ ‵ (fdies R′.mir l₀) ∷ ‵ (froom (tyInt w16) l₁ 0) ∷ ‵ (fdies (tyInt w16) l₁)
+              ∷ ‵ (froom τ₂ l₂ 0) ∷ ‵ (fdies τ₂ l₂)
               ∷ ‵ (froom S′.mir l₃ 0) ∷ ‵ (fdies S′.mir l₃) ∷ ‵ (froom τ₄ l₄ 0) ∷ ‵ (fdies τ₄ l₄) ∷ ‵ (froom τ₅ l₅ 0) ∷ ‵ (fdies τ₅ l₅)
               ∷ ‵ (froom τ₆ l₆ 0) ∷ ‵ (fdies τ₆ l₆) ∷ ‵ (froom word l₇ 0) ∷ ‵ (fdies word l₇) ∷ ‵ (froom τ₆ l₈ 0) ∷ ‵ (fdies τ₆ l₈)
-              ∷ ‵ (froom word l₉ 0) ∷ ‵ (fdies word l₉) ∷ ‵ (froom tyBool l₁₀ 0) ∷ ‵ (fdies tyBool l₁₀) ∷ ‵ (froom tyUnit l₁₁ 0) ∷ ‵ (fdies tyUnit l₁₁)
-              ∷ ‵ (froom τ₁₂ l₁₂ 0) ∷ ‵ (fdies τ₁₂ l₁₂) ∷ ‵ (froom τ₁₃ l₁₃ 0) ∷ ‵ (fdies τ₁₃ l₁₃) ∷ ‵ (froom word l₁₄ 0) ∷ ‵ (fdies word l₁₄)
-              ∷ ‵ (froom tyPtr l₁₅ 0) ∷ ‵ (fdies tyPtr l₁₅) ∷ ‵ (froom E′.mir l₁₆ 0) ∷ ‵ (fdies E′.mir l₁₆) ∷ ‵ (flft κ₀ q₀) ∷ ‵ (flft κ₁ q₁) ∷ ‵ (flft κ₂ q₂) ∷ ‵ (R.the-row .own r (u ∷ [])) ∷ [])
+              ∷ ‵ (froom word l₉ 0) ∷ ‵ (fdies word l₉) ∷ ‵ (froom tyBool l₁₀ 0) ∷ ‵ (fdies tyBool l₁₀) ∷ ‵ (froom tyUnit l₁₁ 0)
+              ∷ ‵ (fdies tyUnit l₁₁)
+              ∷ ‵ (froom τ₁₂ l₁₂ 0) ∷ ‵ (fdies τ₁₂ l₁₂) ∷ ‵ (froom τ₁₃ l₁₃ 0) ∷ ‵ (fdies τ₁₃ l₁₃) ∷ ‵ (froom word l₁₄ 0)
+              ∷ ‵ (fdies word l₁₄)
+              ∷ ‵ (froom tyPtr l₁₅ 0) ∷ ‵ (fdies tyPtr l₁₅) ∷ ‵ (froom E′.mir l₁₆ 0) ∷ ‵ (fdies E′.mir l₁₆) ∷ ‵ (flft κ₀ q₀)
+              ∷ ‵ (flft κ₁ q₁) ∷ ‵ (flft κ₂ q₂) ∷ ‵ (R.the-row .own r (u ∷ [])) ∷ [])
               (runs C Λ En text.t-8 (atRet En Post))
-          freed r u k = returns ! (look ! 0 refl) $ forget ! 0 refl $ free1 ! $ free1 ! $ free1 ! $ free1 ! $ free1 ! $ free1 ! $ free1 ! $ free1 ! $ free1 ! $ free1 ! $ free1 ! $ free1 ! $ free1 ! $ free1 ! $ free1 ! $ free1 ! $ free1 ! $ free0 ! $ by ! k
+          freed r u k = returns ! (look ! 0 refl) $ forget ! 0 refl $ free1 ! $ free1 ! $ free1 ! $ free1 ! $ free1 ! $ free1 ! $ free1 ! $
+              free1 ! $ free1 ! $ free1 ! $ free1 ! $ free1 ! $ free1 ! $ free1 ! $ free1 ! $ free1 ! $ free1 ! $ free0 ! $ by ! k
 
           -- the turn that leaves the loop, and the rest of the body
           ends : (s : State) → n ≤ s .0 → Sq W (At s) (runs C Λ En text.turn-1 (anyQ (Turned s)))
@@ -368,22 +448,36 @@ module _
               let i = s .0 in
               let xs = s .1 .0 in
               let v = s .1 .1 .0 in
-              assigns ! (bin ! (load ! (from ! (stop !)) (look ! 1 refl)) (load ! (from ! (stop !)) (look ! 10 refl)) tt) (from ! (stop !)) (init ! 2 refl (tt, tt)) $
-              rewrite ! 2 (λ (t : Bool). ‵ (fat fullShare tyBool l₁₀ 0 (vbool t))) (le-ltb i n past) refl $ leaves-loop ! (load ! (from ! (stop !)) (look ! 2 refl)) $
-              exec ! C Λ En text.t-6 (atRet En Post) $ assigns ! (of-opd ! (load ! (from ! (stop !)) (look ! 0 refl))) (from ! (stop !)) (init ! 9 refl (typed xs v (is-entries s))) $
+              assigns ! (bin ! (load ! (from ! (stop !)) (look ! 1 refl)) (load ! (from ! (stop !)) (look ! 10 refl)) tt) (from ! (stop !))
+              (init ! 2 refl (tt, tt)) $
+              rewrite ! 2 (λ (t : Bool). ‵ (fat fullShare tyBool l₁₀ 0 (vbool t))) (le-ltb i n past) refl $
+              leaves-loop ! (load ! (from ! (stop !)) (look ! 2 refl)) $
+              exec ! C Λ En text.t-6 (atRet En Post) $
+              assigns ! (of-opd ! (load ! (from ! (stop !)) (look ! 0 refl))) (from ! (stop !))
+              (init ! 9 refl (typed xs v (is-entries s))) $
               move ! (17 ∷ 20 ∷ []) $ use2 W (raw (Compare 𝓤 H A mem run .pre (to-compare xs v))) (asks-compare xs v (is-entries s)) $
-              -- [what `compare` asks; _6; _7; _10; …; _16; _8; _9; _1; _2; _3; _4; _5; _0; κ₁'s and κ₂'s token; what edges and frames own; …]
+              -- [what `compare` asks; _6; _7; _10; …; _16; _8; _9; _1; _2; _3; _4; _5; _0; κ₁'s and κ₂'s token; what edges and frames own;
+              -- …]
               calls-at ! fm (Compare 𝓤 H A mem run) known-compare (to-compare xs v)
-              (and-then ! (load ! (from ! (stop !)) (look ! 12 refl)) (and-then ! (load ! (from ! (stop !)) (look ! 13 refl)) (and-then ! (load ! (from ! (stop !)) (look ! 14 refl)) (and-then ! (load ! (from ! (stop !)) (look ! 10 refl)) (no-more !))))) (λ u.
-              use1 W (later (some (λ (r : Verdict). ((‵ (flft κ₀ q₀) ⊛ ‵ ftrue) ⊛ ‵ (R.the-row .own r (u ∷ []))) ⊛ raw (ensured 𝓤 H A compare.ended (compare.clauses 𝓤 H A mem run) (κ₀, tt) (dom, (leaves, (span, (xs, tt)))) tt r)))) (id⊢ 𝓤 _) $ await ! tt $ pick ! (λ r.
-              split ! $ move ! (1 ∷ []) $ use1 W (raw (fact 𝓤 (Compared xs r))) (says-compare xs r) $ heard ! (Compared xs r) (λ compared. split ! $ move ! (1 ∷ []) $
+              (and-then ! (load ! (from ! (stop !)) (look ! 12 refl))
+              (and-then ! (load ! (from ! (stop !)) (look ! 13 refl))
+              (and-then ! (load ! (from ! (stop !)) (look ! 14 refl))
+              (and-then ! (load ! (from ! (stop !)) (look ! 10 refl)) (no-more !))))) (λ u.
+              use1 W (later (some (λ (r : Verdict). ((‵ (flft κ₀ q₀) ⊛ ‵ ftrue) ⊛ ‵ (R.the-row .own r (u ∷ [])))
+              ⊛ raw (ensured 𝓤 H A compare.ended (compare.clauses 𝓤 H A mem run) (κ₀, tt) (dom, (leaves, (span, (xs, tt)))) tt r))))
+              (id⊢ 𝓤 _) $ await ! tt $ pick ! (λ r.
+              split ! $ move ! (1 ∷ []) $ use1 W (raw (fact 𝓤 (Compared xs r))) (says-compare xs r) $
+              heard ! (Compared xs r) (λ compared. split ! $ move ! (1 ∷ []) $
               -- [the result; κ₀'s token; _6; _7; _10; …; _16; _8; _9; _1; _2; _3; _4; _5; room for _0; κ₁'s and κ₂'s token; …]
               peeks ! R.the-row (Is R.the-row) (shows 𝓤 H A R.the-row) r (u ∷ []) (λ is-r.
               land ! (from ! (stop !)) (init ! 18 refl (EL.lawful R.the-type R′.the-laws 𝓤 H A W tt .typed r _ is-r .0)) $
-              forget ! 2 refl $ forget ! 3 refl $ forget ! 4 refl $ forget ! 11 refl $ forget ! 12 refl $ forget ! 13 refl $ forget ! 14 refl $ forget ! 15 refl $ forget ! 16 refl $ forget ! 17 refl $ move ! (1 ∷ []) $ split ! $
+              forget ! 2 refl $ forget ! 3 refl $ forget ! 4 refl $ forget ! 11 refl $ forget ! 12 refl $ forget ! 13 refl $
+              forget ! 14 refl $ forget ! 15 refl $ forget ! 16 refl $ forget ! 17 refl $ move ! (1 ∷ []) $ split ! $
               -- [κ₀'s token; true; the result; _6; …]
-              keep ! (19 ∷ 24 ∷ 14 ∷ 25 ∷ 15 ∷ 26 ∷ 16 ∷ 27 ∷ 17 ∷ 28 ∷ 18 ∷ 29 ∷ 3 ∷ 30 ∷ 4 ∷ 31 ∷ 12 ∷ 32 ∷ 13 ∷ 33 ∷ 5 ∷ 34 ∷ 6 ∷ 35 ∷ 7 ∷ 36 ∷ 8 ∷ 37 ∷ 9 ∷ 38 ∷ 10 ∷ 39 ∷ 11 ∷ 40 ∷ 0 ∷ 20 ∷ 21 ∷ 2 ∷ []) $
-              freed r u (exits r u (compared ∙ same-compared dom span _ _ (now leaves) (all-noted (now frames) dom span es i xs past (noted-to s))))))))
+              keep ! (19 ∷ 24 ∷ 14 ∷ 25 ∷ 15 ∷ 26 ∷ 16 ∷ 27 ∷ 17 ∷ 28 ∷ 18 ∷ 29 ∷ 3 ∷ 30 ∷ 4 ∷ 31 ∷ 12 ∷ 32 ∷ 13 ∷ 33 ∷ 5 ∷ 34 ∷ 6 ∷ 35 ∷ 7
+              ∷ 36 ∷ 8 ∷ 37 ∷ 9 ∷ 38 ∷ 10 ∷ 39 ∷ 11 ∷ 40 ∷ 0 ∷ 20 ∷ 21 ∷ 2 ∷ []) $
+              freed r u (exits r u (compared
+              ∙ same-compared dom span _ _ (now leaves) (all-noted (now frames) dom span es i xs past (noted-to s))))))))
 
           turns : (s : State) → Sq W (At s) (runs C Λ En text.turn-1 (anyQ (Turned s)))
           turns s = go (ltb (s .0) n) refl
@@ -396,49 +490,78 @@ module _
           looping s = first ! $ blocks ! $ loops ! 𝓣 Nearer nearer-wf At turns s
 
       -- the MIR, up to the loop
-      walk : (𝓣 : Tables 𝓤 H) → FmC 𝓤 H (W .laws) (𝓣 .C) → Triple 𝓤 (𝓣 .C #unmapped) (Unmapped 𝓤 H A mem run) → Triple 𝓤 (𝓣 .C #note) (Note 𝓤 H A mem run) → Triple 𝓤 (𝓣 .C #compare) (Compare 𝓤 H A mem run)
-          → Is (ShrSlice (named 0) κ₀ u8) leaves (lv ∷ []) → Is (ShrSlice (named 1) κ₁ E.the-row) edges (ev ∷ []) → Is (ShrSlice (named 2) κ₂ Frame) frames (fv ∷ [])
-          → ent 𝓤 (onEntry 𝓤 H A check.signature (κ₀, (κ₁, (κ₂, tt))) (q₀, (q₁, (q₂, tt))) a at) (WpFn 𝓤 H (𝓣 .C) (𝓣 .Λ) code.function (vint w16 dom ∷ lv ∷ sv ∷ ev ∷ fv ∷ []) Post)
+      walk : (𝓣 : Tables 𝓤 H) → FmC 𝓤 H (W .laws) (𝓣 .C) → Triple 𝓤 (𝓣 .C #unmapped) (Unmapped 𝓤 H A mem run)
+          → Triple 𝓤 (𝓣 .C #note) (Note 𝓤 H A mem run) → Triple 𝓤 (𝓣 .C #compare) (Compare 𝓤 H A mem run)
+          → Is (ShrSlice (named 0) κ₀ u8) leaves (lv ∷ []) → Is (ShrSlice (named 1) κ₁ E.the-row) edges (ev ∷ [])
+          → Is (ShrSlice (named 2) κ₂ Frame) frames (fv ∷ [])
+          → ent 𝓤 (onEntry 𝓤 H A check.signature (κ₀, (κ₁, (κ₂, tt))) (q₀, (q₁, (q₂, tt))) a at)
+          (WpFn 𝓤 H (𝓣 .C) (𝓣 .Λ) code.function (vint w16 dom ∷ lv ∷ sv ∷ ev ∷ fv ∷ []) Post)
       walk 𝓣 fm known-unmapped known-note known-compare is-leaves is-edges is-frames =
-          qed W ((‵ (flft κ₀ q₀) ⊛ (‵ (flft κ₁ q₁) ⊛ (‵ (flft κ₂ q₂) ⊛ ‵ ftrue))) ∷ ‵ (owns (u16 ∷ ShrSlice (named 0) κ₀ u8 ∷ S.the-row ∷ ShrSlice (named 1) κ₁ E.the-row ∷ ShrSlice (named 2) κ₂ Frame ∷ []) a at) ∷ []) ∵
+          qed W ((‵ (flft κ₀ q₀) ⊛ (‵ (flft κ₁ q₁) ⊛ (‵ (flft κ₂ q₂) ⊛ ‵ ftrue)))
+          ∷ ‵ (owns (u16 ∷ ShrSlice (named 0) κ₀ u8 ∷ S.the-row ∷ ShrSlice (named 1) κ₁ E.the-row ∷ ShrSlice (named 2) κ₂ Frame ∷ []) a at)
+          ∷ []) ∵
           enter ! (𝓣 .C) (𝓣 .Λ) code.function (vint w16 dom ∷ lv ∷ sv ∷ ev ∷ fv ∷ []) _ $
-          alloc1 ! (λ l₀. alloc1 ! (λ l₁. alloc1 ! (λ l₂. alloc1 ! (λ l₃. alloc1 ! (λ l₄. alloc1 ! (λ l₅. alloc1 ! (λ l₆. alloc1 ! (λ l₇. alloc1 ! (λ l₈. alloc1 ! (λ l₉. alloc1 ! (λ l₁₀. alloc1 ! (λ l₁₁. alloc1 ! (λ l₁₂. alloc1 ! (λ l₁₃. alloc1 ! (λ l₁₄. alloc1 ! (λ l₁₅. alloc1 ! (λ l₁₆. alloc0 ! $ params1 ! $
-          pass1 ! (init ! 30 refl (tt, record { fits = is-dom })) $ pass1 ! (init ! 28 refl (shr-slice-lawful 𝓤 H A W (named 0) κ₀ u8 .typed leaves _ is-leaves .0)) $
+          alloc1 ! (λ l₀. alloc1 ! (λ l₁. alloc1 ! (λ l₂. alloc1 ! (λ l₃. alloc1 ! (λ l₄. alloc1 ! (λ l₅. alloc1 ! (λ l₆. alloc1 ! (λ l₇.
+          alloc1 ! (λ l₈. alloc1 ! (λ l₉. alloc1 ! (λ l₁₀. alloc1 ! (λ l₁₁. alloc1 ! (λ l₁₂. alloc1 ! (λ l₁₃. alloc1 ! (λ l₁₄.
+          alloc1 ! (λ l₁₅. alloc1 ! (λ l₁₆. alloc0 ! $ params1 ! $
+          pass1 ! (init ! 30 refl (tt, record { fits = is-dom })) $
+          pass1 ! (init ! 28 refl (shr-slice-lawful 𝓤 H A W (named 0) κ₀ u8 .typed leaves _ is-leaves .0)) $
           pass1 ! (init ! 26 refl (EL.lawful S.the-type S′.the-laws 𝓤 H A W tt .typed span _ is-span .0)) $
           pass1 ! (init ! 24 refl (shr-slice-lawful 𝓤 H A W (named 1) κ₁ E.the-row .typed edges _ is-edges .0)) $
           pass1 ! (init ! 22 refl (shr-slice-lawful 𝓤 H A W (named 2) κ₂ Frame .typed frames _ is-frames .0)) $ pass0 ! $
-          -- [_16; …; _15; …; _14; …; _13; …; _12; …; _11; …; _10; …; _9; …; _8; …; _7; …; _6; …; _5; …; _4; …; _3; …; _2; …; _1; …; _0; …; the tokens; what the parameters own]
+          -- [_16; …; _15; …; _14; …; _13; …; _12; …; _11; …; _10; …; _9; …; _8; …; _7; …; _6; …; _5; …; _4; …; _3; …; _2; …; _1; …; _0; …;
+          -- the tokens; what the parameters own]
           use0 W (raw (Unmapped 𝓤 H A mem run .pre ((tt, tt, tt, tt, tt), tt))) asks-unmapped $
           calls-at ! fm (Unmapped 𝓤 H A mem run) known-unmapped ((tt, tt, tt, tt, tt), tt) (no-more !) (λ u.
-          use1 W (later (some (λ (r : List ℕ). (‵ ftrue ⊛ ‵ (Entries .own r (u ∷ []))) ⊛ raw (ensured 𝓤 H A unmapped.ended (unmapped.clauses 𝓤 H A mem run) tt tt tt r)))) (id⊢ 𝓤 _) $ await ! tt $ pick ! (λ r.
-          split ! $ move ! (1 ∷ []) $ use1 W (raw (fact 𝓤 (r ≡ replicate entries 0))) (says-unmapped r) $ heard ! (r ≡ replicate entries 0) (λ blank. split ! $ drop ! $
+          use1 W (later (some (λ (r : List ℕ). (‵ ftrue ⊛ ‵ (Entries .own r (u ∷ [])))
+          ⊛ raw (ensured 𝓤 H A unmapped.ended (unmapped.clauses 𝓤 H A mem run) tt tt tt r)))) (id⊢ 𝓤 _) $ await ! tt $ pick ! (λ r.
+          split ! $ move ! (1 ∷ []) $ use1 W (raw (fact 𝓤 (r ≡ replicate entries 0))) (says-unmapped r) $
+          heard ! (r ≡ replicate entries 0) (λ blank. split ! $ drop ! $
           facts ! Entries (Is Entries) (shows 𝓤 H A Entries) r (u ∷ []) (λ is-r.
-          land ! (from ! (stop !)) (init ! 16 refl (typed r u is-r)) $ assigns ! (of-opd ! (load ! (from ! (stop !)) (look ! 16 refl))) (from ! (stop !)) (init ! 20 refl (typed r u is-r)) $
+          land ! (from ! (stop !)) (init ! 16 refl (typed r u is-r)) $
+          assigns ! (of-opd ! (load ! (from ! (stop !)) (look ! 16 refl))) (from ! (stop !)) (init ! 20 refl (typed r u is-r)) $
           assigns ! (of-opd ! (lit ! tt)) (from ! (stop !)) (init ! 18 refl (tt, record { fits = lit< tt })) $
-          assigns ! (of-opd ! (load ! (from ! (fld ! refl (stop !))) (look-in ! 24 (sub ! 1 refl (whole !))))) (from ! (stop !)) (init ! 14 refl (tt, record { fits = is-edges .0 .1 .0 })) $ forget ! 16 refl $
+          assigns ! (of-opd ! (load ! (from ! (fld ! refl (stop !))) (look-in ! 24 (sub ! 1 refl (whole !))))) (from ! (stop !))
+          (init ! 14 refl (tt, record { fits = is-edges .0 .1 .0 })) $ forget ! 16 refl $
           -- the tokens, and what the slices own, each by itself
           move ! (34 ∷ []) $ split ! $ move ! (1 ∷ []) $ split ! $ move ! (1 ∷ []) $ split ! $
           move ! (38 ∷ []) $ fsplit ! $ drop ! $ fsplit ! $ move ! (1 ∷ []) $ fsplit ! $ drop ! $ fsplit ! $ move ! (1 ∷ []) $ fsplit ! $
           -- [what frames owns; true; what edges and leaves own; κ₂'s token; true; κ₁'s, κ₀'s; _16; …]
-          keep ! (28 ∷ 26 ∷ 20 ∷ 18 ∷ 16 ∷ 14 ∷ 12 ∷ 10 ∷ 8 ∷ 24 ∷ 22 ∷ 38 ∷ 36 ∷ 34 ∷ 32 ∷ 30 ∷ 40 ∷ 7 ∷ 6 ∷ 4 ∷ 3 ∷ 2 ∷ 0 ∷ 41 ∷ 39 ∷ 37 ∷ 35 ∷ 33 ∷ 31 ∷ 29 ∷ 27 ∷ 25 ∷ 23 ∷ 21 ∷ 19 ∷ 17 ∷ 15 ∷ 13 ∷ 11 ∷ 9 ∷ []) $
-          looping 𝓣 fm known-note known-compare (is-edges .0 .1) l₀ l₁ l₂ l₃ l₄ l₅ l₆ l₇ l₈ l₉ l₁₀ l₁₁ l₁₂ l₁₃ l₁₄ l₁₅ l₁₆ (0, (r, (u, (zero-le, (is-r, none-noted (now frames) dom span es r blank))))))))))))))))))))))))))
+          keep ! (28 ∷ 26 ∷ 20 ∷ 18 ∷ 16 ∷ 14 ∷ 12 ∷ 10 ∷ 8 ∷ 24 ∷ 22 ∷ 38 ∷ 36 ∷ 34 ∷ 32 ∷ 30 ∷ 40 ∷ 7 ∷ 6 ∷ 4 ∷ 3 ∷ 2 ∷ 0 ∷ 41 ∷ 39 ∷ 37
+          ∷ 35 ∷ 33 ∷ 31 ∷ 29 ∷ 27 ∷ 25 ∷ 23 ∷ 21 ∷ 19 ∷ 17 ∷ 15 ∷ 13 ∷ 11 ∷ 9 ∷ []) $
+          looping 𝓣 fm known-note known-compare (is-edges .0 .1) l₀ l₁ l₂ l₃ l₄ l₅ l₆ l₇ l₈ l₉ l₁₀ l₁₁ l₁₂ l₁₃ l₁₄ l₁₅ l₁₆
+          (0, (r, (u, (zero-le, (is-r, none-noted (now frames) dom span es r blank))))))))))))))))))))))))))
         where
           asks-unmapped : ent 𝓤 (emp 𝓤) (Unmapped 𝓤 H A mem run .pre ((tt, tt, tt, tt, tt), tt))
           asks-unmapped = qed W [] ∵ nothing ! $ nothing ! $ join ! $ frame ! $ done !
 
-module _ {M : Type 1} (𝓤 : URA M) (H : Heap 𝓤) (A : Atoms 𝓤) (W : Given 𝓤 H A) (mem : Memory → SProp 𝓤) (run : Routine → Fun 𝓤) (𝓣 : Tables 𝓤 H)
-    (known-unmapped : Triple 𝓤 (𝓣 .C #unmapped) (Unmapped 𝓤 H A mem run)) (known-note : Triple 𝓤 (𝓣 .C #note) (Note 𝓤 H A mem run)) (known-compare : Triple 𝓤 (𝓣 .C #compare) (Compare 𝓤 H A mem run)) where
+module _ {M : Type 1} (𝓤 : URA M) (H : Heap 𝓤) (A : Atoms 𝓤) (W : Given 𝓤 H A) (mem : Memory → SProp 𝓤) (run : Routine → Fun 𝓤)
+    (𝓣 : Tables 𝓤 H)
+    (known-unmapped : Triple 𝓤 (𝓣 .C #unmapped) (Unmapped 𝓤 H A mem run)) (known-note : Triple 𝓤 (𝓣 .C #note) (Note 𝓤 H A mem run))
+    (known-compare : Triple 𝓤 (𝓣 .C #compare) (Compare 𝓤 H A mem run)) where
   check-walks : Walks 𝓤 H A check.ended stayed (WpFn 𝓤 H (𝓣 .C) (𝓣 .Λ) code.function) (check.clauses 𝓤 H A mem run)
   check-walks = walked 𝓤 H A check.ended stayed (check.clauses 𝓤 H A mem run) (WpFn 𝓤 H (𝓣 .C) (𝓣 .Λ) code.function)
       (λ κs. (uint-vals w16, (slice-vals, (EL.vals S.the-type S′.the-laws, (slice-vals, (slice-vals, tt))))))
-      (λ κs. (uint-tells w16, (shr-slice-tells (named 0) (κs .0) u8, (EL.tells S.the-type S′.the-laws, (shr-slice-tells (named 1) (κs .1 .0) E.the-row, (shr-slice-tells (named 2) (κs .1 .1 .0) Frame, tt))))))
+      (λ κs. (
+        uint-tells w16,
+        (
+          shr-slice-tells (named 0) (κs .0) u8,
+          (
+            EL.tells S.the-type S′.the-laws,
+            (shr-slice-tells (named 1) (κs .1 .0) E.the-row, (shr-slice-tells (named 2) (κs .1 .1 .0) Frame, tt)),
+          ),
+        ),
+      ))
       (λ κs qs bounds a g are. via 𝓤 _ (fst∗ 𝓤 _ (emp 𝓤))
-      (walk 𝓤 H A W mem run (κs .0) (κs .1 .0) (κs .1 .1 .0) (qs .0) (qs .1 .0) (qs .1 .1 .0) (a .0) (a .1 .0) (a .1 .1 .0) (a .1 .1 .1 .0 .ptr .0) (a .1 .1 .1 .0 .ptr .1) (a .1 .1 .1 .0 .name) (a .1 .1 .1 .0 .now) (a .1 .1 .1 .1 .0)
-      (are .0 .1) (are .1 .1 .0) 𝓣 (fmOf 𝓤 H (W .laws) 𝓣) known-unmapped known-note known-compare (are .1 .0) (are .1 .1 .1 .0) (are .1 .1 .1 .1 .0)))
+      (walk 𝓤 H A W mem run (κs .0) (κs .1 .0) (κs .1 .1 .0) (qs .0) (qs .1 .0) (qs .1 .1 .0) (a .0) (a .1 .0) (a .1 .1 .0)
+      (a .1 .1 .1 .0 .ptr .0) (a .1 .1 .1 .0 .ptr .1) (a .1 .1 .1 .0 .name) (a .1 .1 .1 .0 .now) (a .1 .1 .1 .1 .0)
+      (are .0 .1) (are .1 .1 .0) 𝓣 (fmOf 𝓤 H (W .laws) 𝓣) known-unmapped known-note known-compare (are .1 .0) (are .1 .1 .1 .0)
+      (are .1 .1 .1 .1 .0)))
 
   check-meets : Meets 𝓤 H A check.signature (WpFn 𝓤 H (𝓣 .C) (𝓣 .Λ) code.function) (check.spec 𝓤 H A mem run)
   check-meets = walk-meets 𝓤 H A check.ended stayed W
-      (dropped-go 𝓤 H A W (check.ended .signature .params) (check.ended .kept) ((λ κs x f. refl), ((λ κs x f. refl), ((λ κs x f. refl), ((λ κs x f. refl), ((λ κs x f. refl), tt))))))
+      (dropped-go 𝓤 H A W (check.ended .signature .params) (check.ended .kept)
+      ((λ κs x f. refl), ((λ κs x f. refl), ((λ κs x f. refl), ((λ κs x f. refl), ((λ κs x f. refl), tt))))))
       (check.clauses 𝓤 H A mem run) (WpFn 𝓤 H (𝓣 .C) (𝓣 .Λ) code.function) (WpFn-mono 𝓤 H (W .laws) 𝓣 code.function) check-walks
 
 pub check-exact-spec : {M : Type 1} → stated.statement M
@@ -447,6 +570,8 @@ check-exact-spec 𝓤 H 𝓜 𝓖 𝓡 =
     entered 𝓤 H (tripleOf 𝓤 H (𝓖 .A) check.signature (check.spec 𝓤 H (𝓖 .A) (𝓜 .mem) (𝓡 .run)))
     (tables 𝓤 H 𝓜 𝓡 code.env .C) (tables 𝓤 H 𝓜 𝓡 code.env .Λ) #check-exact code.function (code.unfolded 𝓤 H 𝓜 𝓡)
     (check-meets 𝓤 H (𝓖 .A) (givenOf 𝓤 H 𝓜 𝓖) (𝓜 .mem) (𝓡 .run) (tablesOf 𝓤 H 𝓜 (tables 𝓤 H 𝓜 𝓡 code.env))
-    (cited 𝓤 H (Unmapped 𝓤 H (𝓖 .A) (𝓜 .mem) (𝓡 .run)) 𝓜 𝓡 code.env #unmapped unmapped-def.routine code.calls-exact·unmapped (unmapped-thm.met 𝓤 H 𝓜 𝓖 𝓡))
+    (cited 𝓤 H (Unmapped 𝓤 H (𝓖 .A) (𝓜 .mem) (𝓡 .run)) 𝓜 𝓡 code.env #unmapped unmapped-def.routine code.calls-exact·unmapped
+    (unmapped-thm.met 𝓤 H 𝓜 𝓖 𝓡))
     (cited 𝓤 H (Note 𝓤 H (𝓖 .A) (𝓜 .mem) (𝓡 .run)) 𝓜 𝓡 code.env #note note-def.routine code.calls-exact·note (note-thm.met 𝓤 H 𝓜 𝓖 𝓡))
-    (cited 𝓤 H (Compare 𝓤 H (𝓖 .A) (𝓜 .mem) (𝓡 .run)) 𝓜 𝓡 code.env #compare compare-def.routine code.calls-exact·compare (compare-thm.met 𝓤 H 𝓜 𝓖 𝓡)))
+    (cited 𝓤 H (Compare 𝓤 H (𝓖 .A) (𝓜 .mem) (𝓡 .run)) 𝓜 𝓡 code.env #compare compare-def.routine code.calls-exact·compare
+    (compare-thm.met 𝓤 H 𝓜 𝓖 𝓡)))

@@ -38,7 +38,8 @@ past-requires-2 : tie.Need-past-requires-2
 past-requires-2 c κs = search needs
 
 -- the next step, by the progress that was told
-after : (step : Filling → Filling) (base sup : List ℕ) {p q : Progress} → p ≡ q → onward step (fillingAt base sup p) ≡ onward step (fillingAt base sup q)
+after : (step : Filling → Filling) (base sup : List ℕ) {p q : Progress} → p ≡ q
+    → onward step (fillingAt base sup p) ≡ onward step (fillingAt base sup q)
 after step base sup e = ap (λ r. onward step (fillingAt base sup r)) e
 
 returns : tie.Need-returns

@@ -44,7 +44,8 @@ returns-2 c =
     let v = c .before .before .before .before in
     let told = v .before .before .before in
     let a = told .before .before .before .before .args in
-    let step : Progress → Filling = λ p. onward (λ h. placed (now (a .frames)) (a .dom) h (a .e)) (fillingAt (now (a .base)) (now (a .sup)) p) in
+    let step : Progress → Filling =
+    λ p. onward (λ h. placed (now (a .frames)) (a .dom) h (a .e)) (fillingAt (now (a .base)) (now (a .sup)) p) in
     v .place-edge .ensures ∙ sym (ap step (told .enum-told .given .1) ∙ on _ _ refl)
 
 pub place-next-spec : {M : Type 1} → statement M

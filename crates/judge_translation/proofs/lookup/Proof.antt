@@ -45,7 +45,8 @@ returns c =
     let s = h .before .before .before in
     let a = s .args in
     let outside = elsewhereOf (now (a .places)) (a .named) (a .index) in
-    let here = fetch-at (h .loop .t * entries) outside (now (a .tables)) (h .loop .t) (wordsOf (now (a .arena))) (a .named) (a .index) (omega (arith, s .pre)) in
+    let here = fetch-at (h .loop .t * entries) outside (now (a .tables)) (h .loop .t) (wordsOf (now (a .arena))) (a .named) (a .index)
+    (omega (arith, s .pre)) in
     c .word-at .ensures ∙ sym (h .loop .inv ∙ here ∙ simp (eq-eqb _ _ (c .before .if1 .taken)))
 
 add-t : tie.Need-add-t Inv-loop μ-loop
@@ -60,7 +61,8 @@ loop-again c =
     let s = h .before .before .before in
     let a = s .args in
     let outside = elsewhereOf (now (a .places)) (a .named) (a .index) in
-    let here = fetch-at (h .loop .t * entries) outside (now (a .tables)) (h .loop .t) (wordsOf (now (a .arena))) (a .named) (a .index) (omega (arith, s .pre)) in
+    let here = fetch-at (h .loop .t * entries) outside (now (a .tables)) (h .loop .t) (wordsOf (now (a .arena))) (a .named) (a .index)
+    (omega (arith, s .pre)) in
     let next : h .loop .t * entries + entries ≡ (h .loop .t + 1) * entries = omega arith in
     h .loop .inv ∙ here ∙ simp (ne-eqb _ _ (c .if1 .left), next)
 
@@ -76,7 +78,8 @@ returns-2 c =
     c .elsewhere .ensures
     ∙ sym
     (h .loop .inv
-    ∙ fetch-end (h .loop .t * entries) outside (now (a .tables)) (h .loop .t) (wordsOf (now (a .arena))) (a .named) (a .index) (omega (arith, s .pre)))
+    ∙ fetch-end (h .loop .t * entries) outside (now (a .tables)) (h .loop .t) (wordsOf (now (a .arena))) (a .named) (a .index)
+    (omega (arith, s .pre)))
 
 pub lookup-spec : {M : Type 1} → statement M
 lookup-spec =

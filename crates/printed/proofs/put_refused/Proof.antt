@@ -31,7 +31,8 @@ slice-aggregate-put-2 c = search needs
 
 -- the digits fit
 few-of : (d : tie.After-decimal) → d .decimal .result ≤ 20
-few-of d = let s = d .before .before .before in few (s .args .number) (d .decimal .result) (omega (arith, s .fits)) (d .decimal .ensures .1 .0)
+few-of d = let s = d .before .before .before in
+    few (s .args .number) (d .decimal .result) (omega (arith, s .fits)) (d .decimal .ensures .1 .0)
 
 put-requires-2 : tie.Need-put-requires-2
 put-requires-2 c κs =
@@ -47,7 +48,16 @@ put-requires-3 c κs =
     let q = c .before .before .before .before in
     let f = q .before .before .before .before .before in
     let d = f .before .before .before in
-    omega (arith, q .put2 .ensures .0, q .put2 .kept .1 .0, f .put .ensures .0, f .put .kept .1 .0, d .decimal .ensures .0, few-of d, d .before .before .before .pre)
+    omega (
+      arith,
+      q .put2 .ensures .0,
+      q .put2 .kept .1 .0,
+      f .put .ensures .0,
+      f .put .kept .1 .0,
+      d .decimal .ensures .0,
+      few-of d,
+      d .before .before .before .pre,
+    )
 
 same-length : tie.Need-same-length
 same-length c = search needs
@@ -68,12 +78,16 @@ returns c =
     let one : f .put .last .1 .0 ≡ inFront front old = f .put .ensures .1 ∙ put-first old front in
     let two : q .put2 .last .1 .0 ≡ inFront (front ++ number) old =
     q .put2 .ensures .1 ∙ ap₂ (λ xs k. paste xs k number (length number)) one (f .put .ensures .0) ∙ put-next old front number in
-    let long : q .put2 .result ≡ length (front ++ number) = q .put2 .ensures .0 ∙ ap (λ k. k + length number) (f .put .ensures .0) ∙ sym (length-append front number) in
+    let long : q .put2 .result ≡ length (front ++ number) =
+    q .put2 .ensures .0 ∙ ap (λ k. k + length number) (f .put .ensures .0) ∙ sym (length-append front number) in
     let three : t .put3 .last .1 .0 ≡ inFront ((front ++ number) ++ feed) old =
     t .put3 .ensures .1 ∙ ap₂ (λ xs k. paste xs k feed (length feed)) two long ∙ put-next old (front ++ number) feed in
     let text : (front ++ number) ++ feed ≡ refusedLine (a .number) =
-    append-assoc front number feed ∙ ap (λ ds. front ++ (ds ++ feed)) (d .decimal .ensures .1 .1 ∙ fewest 20 (d .decimal .result) (a .number) short (d .decimal .ensures .1 .0)) in
-    let end : t .put3 .result ≡ length ((front ++ number) ++ feed) = t .put3 .ensures .0 ∙ ap (λ k. k + 1) long ∙ sym (length-append (front ++ number) feed) in
+    append-assoc front number feed
+    ∙ ap (λ ds. front ++ (ds ++ feed))
+    (d .decimal .ensures .1 .1 ∙ fewest 20 (d .decimal .result) (a .number) short (d .decimal .ensures .1 .0)) in
+    let end : t .put3 .result ≡ length ((front ++ number) ++ feed) =
+    t .put3 .ensures .0 ∙ ap (λ k. k + 1) long ∙ sym (length-append (front ++ number) feed) in
     record {
       long = end ∙ ap length text;
       fits = omega (arith, t .put3 .ensures .0, q .put2 .ensures .0, f .put .ensures .0, d .decimal .ensures .0, short);

@@ -32,7 +32,8 @@ array-read-t28 : tie.Need-array-read-t28
 array-read-t28 c = search needs
 
 returns : tie.Need-returns
-returns c = let a = c .before .before .args in rw (c .before .leaf-values .ensures, c .wanted-values .ensures) (leaf-carried (a .mfn) (a .found) (a .expected))
+returns c = let a = c .before .before .args in
+    rw (c .before .leaf-values .ensures, c .wanted-values .ensures) (leaf-carried (a .mfn) (a .found) (a .expected))
 
 pub bad-leaf-spec : {M : Type 1} → statement M
 bad-leaf-spec =

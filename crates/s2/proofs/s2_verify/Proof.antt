@@ -23,7 +23,8 @@ returns c =
     let o = v .before in
     let a = o .before .before .before .before .args in
     c .answer .ensures
-    ∙ ap outcomeWords (v .verify-encoding .ensures ∙ ap (λ l. first (verifyRows (now (a .arena)) (now (a .base)) (now (a .sup)) l)) (o .of .ensures))
+    ∙ ap outcomeWords (v .verify-encoding .ensures
+    ∙ ap (λ l. first (verifyRows (now (a .arena)) (now (a .base)) (now (a .sup)) l)) (o .of .ensures))
 
 pub s2-verify-spec : {M : Type 1} → statement M
 s2-verify-spec =

@@ -85,7 +85,8 @@ returns c =
     let new = scene (t .last .1 .1 .1 .0) (t .last .1 .1 .1 .1 .0) (t .last .1 .1 .1 .1 .1 .0) in
     let piece = take (n .count .result) (r .read .last .1 .0) in
     let text = inv .5 .0 in
-    let left = sym (ap (λ u. readingOf u (t .last .1 .0) new) (c .enum-told .given .1)) ∙ t .ensures ∙ ap (λ k. takenAll k old piece) (inv .1) in
+    let left = sym (ap (λ u. readingOf u (t .last .1 .0) new) (c .enum-told .given .1)) ∙ t .ensures
+    ∙ ap (λ k. takenAll k old piece) (inv .1) in
     let all = more 36 first text piece old _ (inv .5 .1) left in
     (text ++ piece, ap finished (sym all) ∙ reads-lines 36 (omega arith) first (text ++ piece))
 
@@ -109,7 +110,8 @@ loop-again c =
     let new = scene (t .last .1 .1 .1 .0) (t .last .1 .1 .1 .1 .0) (t .last .1 .1 .1 .1 .1 .0) in
     let piece = take (n .count .result) (r .read .last .1 .0) in
     let text = inv .5 .0 in
-    let left = sym (ap (λ u. readingOf u (t .last .1 .0) new) (c .before .kept .given .1)) ∙ t .ensures ∙ ap (λ k. takenAll k old piece) (inv .1) in
+    let left = sym (ap (λ u. readingOf u (t .last .1 .0) new) (c .before .kept .given .1)) ∙ t .ensures
+    ∙ ap (λ k. takenAll k old piece) (inv .1) in
     let all = more 36 first text piece old _ (inv .5 .1) left in (
       r .read .kept .1 .0 ∙ inv .0,
       t .kept .1 .0 ∙ inv .1,

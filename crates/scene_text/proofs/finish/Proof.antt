@@ -21,7 +21,8 @@ returns c =
     let a = c .before .before .before .before .before .before .args in
     let old = scene (now (a .numbers)) (now (a .base)) (now (a .sup)) in
     let none : min (a .kept) (length (now (a .line))) ≡ 0 = sym (k .ensures) ∙ c .if1 .taken in
-    ap (λ n. finished (reading old (take n (now (a .line))))) (sym none) ∙ ap (λ cs. finished (reading old cs)) (all-kept (a .kept) (now (a .line)))
+    ap (λ n. finished (reading old (take n (now (a .line))))) (sym none)
+    ∙ ap (λ cs. finished (reading old cs)) (all-kept (a .kept) (now (a .line)))
 
 slice-aggregate-set : tie.Need-slice-aggregate-set
 slice-aggregate-set c =

@@ -76,7 +76,8 @@ returns c =
     let old = reading (scene (h .loop .numbers) (h .loop .base) (h .loop .sup)) (take (h .loop .len) (h .loop .line)) in
     let new = scene (t .last .1 .1 .1 .0) (t .last .1 .1 .1 .1 .0) (t .last .1 .1 .1 .1 .1 .0) in
     let byte = getD (now (a .piece)) (h .loop .i) 0 in
-    let left = sym (ap (λ u. readingOf u (t .last .1 .0) new) (c .enum-told .given .1)) ∙ t .ensures .1 ∙ ap (λ k. taken k old byte) (inv .1) in
+    let left = sym (ap (λ u. readingOf u (t .last .1 .0) new) (c .enum-told .given .1)) ∙ t .ensures .1
+    ∙ ap (λ k. taken k old byte) (inv .1) in
     sym (stays room new (drop (h .loop .i + 1) (now (a .piece))))
     ∙ after-byte room old (now (a .piece)) (h .loop .i) _ (omega arith) left
     ∙ inv .5
@@ -126,7 +127,8 @@ returns-2 c =
     let h = c .before in
     let a = h .before .before .before .before .before .before .before .args in
     let old = scene (h .loop .numbers) (h .loop .base) (h .loop .sup) in
-    sym (byte-none (length (now (a .line))) (reading old (take (h .loop .len) (h .loop .line))) (now (a .piece)) (h .loop .i) (omega arith)) ∙ h .loop .inv .5
+    sym (byte-none (length (now (a .line))) (reading old (take (h .loop .len) (h .loop .line))) (now (a .piece)) (h .loop .i) (omega arith))
+    ∙ h .loop .inv .5
 
 pub take-spec : {M : Type 1} → statement M
 take-spec =

@@ -70,7 +70,8 @@ returns-3 c =
     let old = scene (now (a .numbers)) (now (a .base)) (now (a .sup)) in
     let line = now (a .line) in (
       search needs,
-      ap (reading old) (none-kept line (a .len) (a .byte) (c .if3 .taken)) ∙ sym (line-goes-on (length line) old (take (a .len) line) (a .byte) (c .before .if1 .left)),
+      ap (reading old) (none-kept line (a .len) (a .byte) (c .if3 .taken))
+          ∙ sym (line-goes-on (length line) old (take (a .len) line) (a .byte) (c .before .if1 .left)),
     )
 
 slice-write-line : tie.Need-slice-write-line
@@ -90,7 +91,8 @@ returns-4 c =
     let room = c .if3 .left in
     let long = length-set line (a .len) (a .byte) in (
       omega (arith, long, room),
-      ap (reading old) (one-kept line (a .len) (a .byte) room) ∙ sym (line-goes-on (length line) old (take (a .len) line) (a .byte) (c .before .if1 .left)),
+      ap (reading old) (one-kept line (a .len) (a .byte) room)
+          ∙ sym (line-goes-on (length line) old (take (a .len) line) (a .byte) (c .before .if1 .left)),
     )
 
 pub take-byte-spec : {M : Type 1} → statement M

@@ -46,7 +46,8 @@ returns-2 c =
     let t = c .before in
     let v = t .before .before .guard in
     record {
-      answer = sym (next _ _ (v .result) refl (t .enum-told .given .1) (v .ensures) ∙ past-last (t .before .before .before .before .before .before .before .args .n) (c .if1 .taken));
+      answer = sym (next _ _ (v .result) refl (t .enum-told .given .1) (v .ensures)
+          ∙ past-last (t .before .before .before .before .before .before .before .args .n) (c .if1 .taken));
       words = refl;
     }
 

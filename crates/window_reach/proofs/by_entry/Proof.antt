@@ -28,19 +28,22 @@ returns : tie.Need-returns
 returns c =
     let m = c .before .before in
     let a = m .before .args in
-    c .reach-at .ensures ∙ ap (reachAt (a .pa)) (c .before .leaf-access-xn .ensures) ∙ sym (ap (byEntry (a .pa) (a .exempt)) (m .match .keys1))
+    c .reach-at .ensures ∙ ap (reachAt (a .pa)) (c .before .leaf-access-xn .ensures)
+    ∙ sym (ap (byEntry (a .pa) (a .exempt)) (m .match .keys1))
 
 returns-2 : tie.Need-returns-2
 returns-2 c =
     let m = c .before .before in
     let a = m .before .args in
-    c .reach-at2 .ensures ∙ ap (reachAt (a .pa)) (c .before .leaf-access-xn2 .ensures) ∙ sym (ap (byEntry (a .pa) (a .exempt)) (m .match .keys2))
+    c .reach-at2 .ensures ∙ ap (reachAt (a .pa)) (c .before .leaf-access-xn2 .ensures)
+    ∙ sym (ap (byEntry (a .pa) (a .exempt)) (m .match .keys2))
 
 returns-3 : tie.Need-returns-3
 returns-3 c =
     let m = c .before .before in
     let a = m .before .args in
-    c .reach-at3 .ensures ∙ ap (reachAt (a .pa)) (c .before .leaf-access-xn3 .ensures) ∙ sym (ap (byEntry (a .pa) (a .exempt)) (m .match .keys3))
+    c .reach-at3 .ensures ∙ ap (reachAt (a .pa)) (c .before .leaf-access-xn3 .ensures)
+    ∙ sym (ap (byEntry (a .pa) (a .exempt)) (m .match .keys3))
 
 returns-4 : tie.Need-returns-4
 returns-4 c =

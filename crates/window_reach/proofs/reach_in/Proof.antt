@@ -119,7 +119,8 @@ grant-requires c κs =
     let v = ws-1 i in
     let within = s .pre .layout .windows .0 in (
       sym (i .inside .ensures) ∙ c .if1 .taken,
-      output (imageRegion (s .args .l)) [] (s .args .ipa) (win v 0) (is v 0) (i .inside .result) (i .inside .ensures) boardLimit within (c .if1 .taken),
+      output (imageRegion (s .args .l)) [] (s .args .ipa) (win v 0) (is v 0) (i .inside .result) (i .inside .ensures) boardLimit within
+          (c .if1 .taken),
     )
 
 returns-2 : tie.Need-returns-2
@@ -129,7 +130,8 @@ returns-2 c =
     let s = start (ws-1 i) in
     let v = ws-1 i in
     c .grant .ensures
-    ∙ sym (here (imageRegion (s .args .l)) (from-data s) (s .args .ipa) (win v 0) (is v 0) (i .inside .result) (i .inside .ensures) (t .if1 .taken))
+    ∙ sym (here (imageRegion (s .args .l)) (from-data s) (s .args .ipa) (win v 0) (is v 0) (i .inside .result) (i .inside .ensures)
+    (t .if1 .taken))
 
 array-copy-out-data : tie.Need-array-copy-out-data
 array-copy-out-data c = search needs
@@ -162,7 +164,8 @@ returns-3 c =
     let r = dataRegion (s .args .l) (now (s .args .base)) in
     c .grant2 .ensures
     ∙ ap (byEntry (win v 1 .pa + (s .args .ipa - win v 1 .ipa)) (r .exempt)) (e .entry-of .ensures)
-    ∙ sym (past-image (i .before .before) ∙ here r (from-super s) (s .args .ipa) (win v 1) (is v 1) (i .inside2 .result) (i .inside2 .ensures) (t .if2 .taken))
+    ∙ sym (past-image (i .before .before)
+    ∙ here r (from-super s) (s .args .ipa) (win v 1) (is v 1) (i .inside2 .result) (i .inside2 .ensures) (t .if2 .taken))
 
 array-copy-out-supers : tie.Need-array-copy-out-supers
 array-copy-out-supers c = search needs
@@ -195,7 +198,8 @@ returns-4 c =
     let r = superRegion (s .args .l) (now (s .args .sup)) in
     c .grant3 .ensures
     ∙ ap (byEntry (win v 2 .pa + (s .args .ipa - win v 2 .ipa)) (r .exempt)) (e .entry-of2 .ensures)
-    ∙ sym (past-data (i .before .before) ∙ here r (from-device s) (s .args .ipa) (win v 2) (is v 2) (i .inside3 .result) (i .inside3 .ensures) (t .if3 .taken))
+    ∙ sym (past-data (i .before .before)
+    ∙ here r (from-device s) (s .args .ipa) (win v 2) (is v 2) (i .inside3 .result) (i .inside3 .ensures) (t .if3 .taken))
 
 devices-requires : tie.Need-devices-requires
 devices-requires c κs = search needs

@@ -35,7 +35,8 @@ returns c =
     let a = o .before .before .before .args in
     let new = e .encode-at .last .1 .0 in
     let l = layoutOf (now (a .numbers)) in
-    let encodes = subst (λ x. Encodes x (now (a .base)) (now (a .sup)) new (outcomeOf (e .encode-at .result))) (o .of .ensures) (e .encode-at .ensures) in
+    let encodes = subst (λ x. Encodes x (now (a .base)) (now (a .sup)) new (outcomeOf (e .encode-at .result))) (o .of .ensures)
+    (e .encode-at .ensures) in
     let answered = subst (λ v. Encodes l (now (a .base)) (now (a .sup)) new (outcomeOf v)) (c .enum-told .given .1) encodes in
     words-pieces l (now (a .base)) (now (a .sup)) new answered
 
@@ -54,7 +55,8 @@ returns-2 c =
     let a = o .before .before .before .args in
     let new = e .encode-at .last .1 .0 in
     let l = layoutOf (now (a .numbers)) in
-    let encodes = subst (λ x. Encodes x (now (a .base)) (now (a .sup)) new (outcomeOf (e .encode-at .result))) (o .of .ensures) (e .encode-at .ensures) in
+    let encodes = subst (λ x. Encodes x (now (a .base)) (now (a .sup)) new (outcomeOf (e .encode-at .result))) (o .of .ensures)
+    (e .encode-at .ensures) in
     let answered = subst (λ x. Encodes l (now (a .base)) (now (a .sup)) new (outcomeOf x)) (v .verdict .given .1) encodes in
     ap (λ xs. pieces (Refused (getD xs 0 0)) new) (c .words3 .ensures)
     ∙ refused-printed l (now (a .base)) (now (a .sup)) new _ answered

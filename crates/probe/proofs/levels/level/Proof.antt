@@ -33,7 +33,8 @@ returns-2 : tie.Need-returns-2
 returns-2 c =
     let k = c .before .before .before in
     let e = sym (k .before .before .before .level-of-kind .ensures) ∙ k .before .l .given .1 in
-    simp (c .before .before .kind .ensures, c .child-number .ensures, c .before .interior-child-type .ensures) (sym (ap tableLevelNumbers e))
+    simp (c .before .before .kind .ensures, c .child-number .ensures, c .before .interior-child-type .ensures)
+    (sym (ap tableLevelNumbers e))
 
 pub level-spec : {M : Type 1} → statement M
 level-spec =

@@ -28,7 +28,8 @@ size :
     (k : tie.After-known-told3) →
     sizeNamed
     (getD
-    (now (k .before .before .before .before .before .before .before .before .before .before .before .before .before .before .before .args .x))
+    (now (k .before .before .before .before .before .before .before .before .before .before .before .before .before .before .before .args
+    .x))
     3
     0)
     ≡ Size (k .before .pa-size .given .0 .0)

@@ -28,7 +28,11 @@ returns-3 c = simp (fits (c .before .before .before .before), le-leb _ _ (c .bef
 returns-4 : tie.Need-returns-4
 unfolding validRegime
 returns-4 c =
-    simp (fits (c .before .before .before .before .before), le-leb _ _ (c .before .before .before .if2 .left), le-leb _ _ (c .before .if3 .left))
+    simp (
+      fits (c .before .before .before .before .before),
+      le-leb _ _ (c .before .before .before .if2 .left),
+      le-leb _ _ (c .before .if3 .left),
+    )
 
 pub valid-spec : {M : Type 1} → statement M
 valid-spec = tie.close (tie.spec input-fits-requires returns returns-2 returns-3 returns-4)

@@ -1,4 +1,5 @@
--- `walker::Walker::new` meets its contract: a walk of its MIR, by hand. A `Walker` is made of the two references passed, in the result's local.
+-- `walker::Walker::new` meets its contract: a walk of its MIR, by hand. A `Walker` is made of the two references passed, in the result's
+-- local.
 -- What they own goes into the result (`Held.antt`'s `shuts`), and nothing is had of the parameters at exit.
 -- Assumes nothing.
 use mathlib.Core.Path.{refl}
@@ -18,7 +19,8 @@ use contract.Monad.{Fun}
 use contract.Running.{givenOf, tables, tablesOf}
 use types.Kit.{Given, ‵, raw, _⊛_, _$_, _∵_, !, qed, by, move, fjoin3, suffices, frame}
 use types.Part.{agg}
-use types.Run.{look, init, forget, stop, from, load, and-then, no-more, assigns, returns, enter, alloc1, alloc0, params1, pass1, pass0, free1, free0}
+use types.Run.{look, init, forget, stop, from, load, and-then, no-more, assigns, returns, enter, alloc1, alloc0, params1, pass1, pass0}
+use types.Run.{free1, free0}
 use sound.WpLaws.{WpFn-mono}
 use denote.Laws.{Is}
 use denote.Builtin.{u64}
@@ -44,7 +46,8 @@ use Rattle.walker.proofs.Walker.new.Code as code
 abbrev stayed : Stays (new.ended .signature .params) (new.ended .kept)
 stayed = dropped (new.ended .signature .params) (new.ended .kept)
 
-module _ {M : Type 1} (𝓤 : URA M) (H : Heap 𝓤) (A : Atoms 𝓤) (W : Given 𝓤 H A) (mem : Memory → SProp 𝓤) (run : Routine → Fun 𝓤) (κ κ′ : Lft) (q q′ : Share) (s t : RefT (List ℕ)) (p : Is (Words κ) s (wordsVal s ∷ [])) (p′ : Is (Addresses κ′) t (addressesVal t ∷ [])) where
+module _ {M : Type 1} (𝓤 : URA M) (H : Heap 𝓤) (A : Atoms 𝓤) (W : Given 𝓤 H A) (mem : Memory → SProp 𝓤) (run : Routine → Fun 𝓤) (κ κ′ : Lft)
+    (q q′ : Share) (s t : RefT (List ℕ)) (p : Is (Words κ) s (wordsVal s ∷ [])) (p′ : Is (Addresses κ′) t (addressesVal t ∷ [])) where
   abbrev κs : Lfts 2
   κs = (κ, (κ′, tt))
 
@@ -63,26 +66,40 @@ module _ {M : Type 1} (𝓤 : URA M) (H : Heap 𝓤) (A : Atoms 𝓤) (W : Given
   exits : ent 𝓤 (onEntry 𝓤 H A new.signature κs qs (s, (t, tt)) at) (Post (T′.lowered made))
   exits =
       qed W ((‵ (flft κ q) ⊛ ‵ (flft κ′ q′) ⊛ ‵ ftrue) ∷ ‵ (Fields κs s t) ∷ []) ∵
-      suffices ! _ (ends-at 𝓤 H A new.ended stayed (new.clauses 𝓤 H A mem run) W ((κs, qs, tt, (s, (t, tt)), at), tt) (T′.lowered made) made (tt, (tt, tt)) (tt, (tt, tt))) $ says ! (refl, refl) $
+      suffices ! _ (ends-at 𝓤 H A new.ended stayed (new.clauses 𝓤 H A mem run) W ((κs, qs, tt, (s, (t, tt)), at), tt) (T′.lowered made) made
+      (tt, (tt, tt)) (tt, (tt, tt))) $ says ! (refl, refl) $
       frame ! $ nothing ! $ nothing ! $ nothing ! $ fjoin3 ! $ frame ! $ by ! (shuts 𝓤 H A W κs s t)
 
   module _ (C : Calls 𝓤 H) (Λ : Loops 𝓤 H) where
     steps : ent 𝓤 (onEntry 𝓤 H A new.signature κs qs (s, (t, tt)) at) (WpFn 𝓤 H C Λ code.function (wordsVal s ∷ addressesVal t ∷ []) Post)
     steps =
-        qed W (raw (onEntry 𝓤 H A new.signature κs qs (s, (t, tt)) at) ∷ []) ∵ enter ! C Λ code.function (wordsVal s ∷ addressesVal t ∷ []) _ $
-        alloc1 ! (λ l₀. alloc1 ! (λ l₁. alloc1 ! (λ l₂. alloc0 ! $ params1 ! $ pass1 ! (init ! 2 refl (shr-slice-lawful 𝓤 H A W (named 0) κ u64 .typed s _ p .0)) $ pass1 ! (init ! 0 refl (shr-lawful 𝓤 H A W (named 1) κ′ (Array u64 tableCount) .typed t _ p′ .0)) $ pass0 ! $
+        qed W (raw (onEntry 𝓤 H A new.signature κs qs (s, (t, tt)) at) ∷ []) ∵
+        enter ! C Λ code.function (wordsVal s ∷ addressesVal t ∷ []) _ $
+        alloc1 ! (λ l₀. alloc1 ! (λ l₁. alloc1 ! (λ l₂.
+        alloc0 ! $ params1 ! $ pass1 ! (init ! 2 refl (shr-slice-lawful 𝓤 H A W (named 0) κ u64 .typed s _ p .0)) $
+        pass1 ! (init ! 0 refl (shr-lawful 𝓤 H A W (named 1) κ′ (Array u64 tableCount) .typed t _ p′ .0)) $ pass0 ! $
         -- [_2; …; _1; …; room for _0; …; what is had at entry]
-        assigns ! (agg ! (and-then ! (load ! (from ! (stop !)) (look ! 2 refl)) (and-then ! (load ! (from ! (stop !)) (look ! 0 refl)) (no-more !)))) (from ! (stop !)) (init ! 4 refl (LL.lawful (D κs) (L κs) 𝓤 H A W .typed made _ (is-held κs s t p p′) .0)) $
-        returns ! (look ! 4 refl) $ forget ! 0 refl $ forget ! 2 refl $ forget ! 4 refl $ move ! (4 ∷ 5 ∷ []) $ free1 ! $ move ! (2 ∷ 3 ∷ []) $ free1 ! $ free1 ! $ free0 ! $ by ! exits)))
+        assigns ! (agg ! (and-then ! (load ! (from ! (stop !)) (look ! 2 refl))
+        (and-then ! (load ! (from ! (stop !)) (look ! 0 refl)) (no-more !)))) (from ! (stop !))
+        (init ! 4 refl (LL.lawful (D κs) (L κs) 𝓤 H A W .typed made _ (is-held κs s t p p′) .0)) $
+        returns ! (look ! 4 refl) $ forget ! 0 refl $ forget ! 2 refl $ forget ! 4 refl $ move ! (4 ∷ 5 ∷ []) $ free1 ! $
+        move ! (2 ∷ 3 ∷ []) $ free1 ! $ free1 ! $ free0 ! $ by ! exits)))
 
 module _ {M : Type 1} (𝓤 : URA M) (H : Heap 𝓤) (A : Atoms 𝓤) (W : Given 𝓤 H A) (mem : Memory → SProp 𝓤) (run : Routine → Fun 𝓤) where
   new-walks : (C : Calls 𝓤 H) (Λ : Loops 𝓤 H) → Walks 𝓤 H A new.ended stayed (WpFn 𝓤 H C Λ code.function) (new.clauses 𝓤 H A mem run)
-  new-walks C Λ = walked 𝓤 H A new.ended stayed (new.clauses 𝓤 H A mem run) (WpFn 𝓤 H C Λ code.function) (λ κs. (slice-vals, (ptr-vals, tt))) (λ κs. (shr-slice-tells (named 0) (κs .0) u64, (shr-tells (named 1) (κs .1 .0) (Array u64 tableCount), tt)))
-      (λ κs qs bounds a g are. via 𝓤 _ (fst∗ 𝓤 _ (emp 𝓤)) (steps 𝓤 H A W mem run (κs .0) (κs .1 .0) (qs .0) (qs .1 .0) (a .0) (a .1 .0) (are .0) (are .1 .0) C Λ))
+  new-walks C Λ = walked 𝓤 H A new.ended stayed (new.clauses 𝓤 H A mem run) (WpFn 𝓤 H C Λ code.function)
+      (λ κs. (slice-vals, (ptr-vals, tt)))
+      (λ κs. (shr-slice-tells (named 0) (κs .0) u64, (shr-tells (named 1) (κs .1 .0) (Array u64 tableCount), tt)))
+      (λ κs qs bounds a g are. via 𝓤 _ (fst∗ 𝓤 _ (emp 𝓤))
+      (steps 𝓤 H A W mem run (κs .0) (κs .1 .0) (qs .0) (qs .1 .0) (a .0) (a .1 .0) (are .0) (are .1 .0) C Λ))
 
-new-meets : {M : Type 1} (𝓤 : URA M) (H : Heap 𝓤) (A : Atoms 𝓤) → Given 𝓤 H A → (mem : Memory → SProp 𝓤) (run : Routine → Fun 𝓤) (𝓣 : Tables 𝓤 H)
+new-meets : {M : Type 1} (𝓤 : URA M) (H : Heap 𝓤) (A : Atoms 𝓤) → Given 𝓤 H A
+    → (mem : Memory → SProp 𝓤) (run : Routine → Fun 𝓤) (𝓣 : Tables 𝓤 H)
     → Meets 𝓤 H A new.signature (WpFn 𝓤 H (𝓣 .C) (𝓣 .Λ) code.function) (new.spec 𝓤 H A mem run)
-new-meets 𝓤 H A W mem run 𝓣 = walk-meets 𝓤 H A new.ended stayed W (dropped-go 𝓤 H A W (new.ended .signature .params) (new.ended .kept) ((λ κs x f. refl), ((λ κs x f. refl), tt))) (new.clauses 𝓤 H A mem run) (WpFn 𝓤 H (𝓣 .C) (𝓣 .Λ) code.function) (WpFn-mono 𝓤 H (W .laws) 𝓣 code.function) (new-walks 𝓤 H A W mem run (𝓣 .C) (𝓣 .Λ))
+new-meets 𝓤 H A W mem run 𝓣 = walk-meets 𝓤 H A new.ended stayed W
+    (dropped-go 𝓤 H A W (new.ended .signature .params) (new.ended .kept) ((λ κs x f. refl), ((λ κs x f. refl), tt)))
+    (new.clauses 𝓤 H A mem run) (WpFn 𝓤 H (𝓣 .C) (𝓣 .Λ) code.function) (WpFn-mono 𝓤 H (W .laws) 𝓣 code.function)
+    (new-walks 𝓤 H A W mem run (𝓣 .C) (𝓣 .Λ))
 
 pub new-spec : {M : Type 1} → stated.statement M
 unfolding code.routine tablesOf
