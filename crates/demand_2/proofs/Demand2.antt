@@ -8,6 +8,7 @@ use lib.Dec.{eqb, ltb}
 use lib.ListN.{getD, take, replicate, length-replicate}
 use borrow.Author.Tests.{eqb-true, eq-eqb, ne-eqb, ltb-true, ltb-false}
 use Rattle.accepted_facts.proofs.Guarded.{guarded-facts, arena-guarded-facts}
+use Rattle.accepted_facts.proofs.Windows.{image-within, data-within, super-within, devices-within}
 use Rattle.accepted_facts.specs.Accepted.{Aligned, Nameable, Within, Apart}
 use Rattle.accepted_facts.specs.Guarded.{Guarded}
 use Rattle.arena.proofs.At.{l1At, dataAt, at-1, at-3, run-2, run-4, run-5, run-6}
@@ -105,7 +106,7 @@ module _ (l : Layout) (base sup : List ℕ) (g : Guarded boardLimit base sup l) 
 
   image-blocks : image .present ≡ true → Blocks 1 (imageRegion l) (imageRun l)
   image-blocks there =
-      let w = g .layout .windows .0 there in
+      let w = image-within (g .layout) there in
       let s = image-span (l .«guest_image_pa») there in
       let itself : Aligned (image .pa) = ap (λ (n : ℕ). n % block) (image-itself (l .«guest_image_pa»)) ∙ g .layout .image there in
       record {
@@ -123,7 +124,7 @@ module _ (l : Layout) (base sup : List ℕ) (g : Guarded boardLimit base sup l) 
 
   super-blocks : Blocks 4 (superRegion l sup) (superRun l sup)
   super-blocks =
-      let w = g .layout .windows .1 .1 .0 refl in
+      let w = super-within (g .layout) in
       let frames = l .«sup_frames» in
       record {
         pieces = refl;
@@ -223,7 +224,7 @@ module _ (l : Layout) (base sup : List ℕ) (g : Guarded boardLimit base sup l) 
 
     in-data : In-slot (part (dataRegion l base) (l .«l2_data_pa»)) → Leads (In x (dataRegion l base)) (tableTo (l .«l2_data_pa»))
     in-data has at1 =
-        let w = g .layout .windows .1 .0 refl in
+        let w = data-within (g .layout) in
         let e = tableTo (l .«l3_data_pa») in
         page-window addresses words x boardLimit (dataRegion l base) refl w refl (g .layout .data-ipa) refl low (sym (eqb-true _ _ has))
         (tableTo (l .«l2_data_pa»)) (l .«l2_data_pa») e (l .«l3_data_pa») at1 (named 2 (omega arith) refl)
@@ -247,7 +248,7 @@ module _ (l : Layout) (base sup : List ℕ) (g : Guarded boardLimit base sup l) 
 
     seen : Sees (granted l base sup x)
     seen =
-        let devices = g .layout .windows .1 .1 .1 in
+        let devices = devices-within (g .layout) in
         seen-in x (l1Slot x) Leads parts 0
         (pairs-map (λ p. Unit) _ _ (λ p q a b. alone p q) parts (all-always _ (λ p. tt) parts) (g .layout .apart))
         (all-map _ _ (λ p within. not-here boardLimit (p .region .window) x within) parts (g .layout .windows)) (

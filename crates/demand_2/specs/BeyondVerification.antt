@@ -1,5 +1,5 @@
--- Verification's yes does not bound a walk: S's encoded words with one changed, which it accepts (`SceneS` of crate `verified`), and what
--- an address then reaches that S does not grant.
+-- Verification's yes does not bound a walk: S's encoded words with one changed, which it accepts (`VerificationS` of `verify_theorems`),
+-- and what an address then reaches that S does not grant.
 use Prim.Native.Nat.{ℕ, _+_, _*_}
 use mathlib.Core.Bool.{true, false}
 use mathlib.Core.Path.{_≡_}

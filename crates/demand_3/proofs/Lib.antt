@@ -4,6 +4,6 @@ pub mod Completing
 pub mod Demand3
 pub mod Granting
 pub mod Lawful
-pub mod SceneS
+pub mod UpdateS
 pub mod State
 pub mod Torn

@@ -3,6 +3,6 @@ pub mod Completing
 pub mod Cuts
 pub mod Demand3
 pub mod Readers
-pub mod SceneS
+pub mod UpdateS
 pub mod Sources
 pub mod WordByWord

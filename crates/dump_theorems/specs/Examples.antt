@@ -45,8 +45,8 @@ printedOfS =
     ∷ "6 048 00400000090004C1\n"
     ∷ []
 
-abbrev pub SceneS : Type 0
-SceneS = dump (bytes linesOfS) ≡ bytes printedOfS
+abbrev pub DumpS : Type 0
+DumpS = dump (bytes linesOfS) ≡ bytes printedOfS
 
 pub record Examples : Type 0 where
   -- 'empty input is refused by 5'

@@ -6,6 +6,7 @@ use mathlib.Core.Path.{_≡_, refl}
 use native.Mathlib.Omega.{arith}
 use lib.ListN.{length}
 use Rattle.accepted_facts.proofs.Accepted.{absent-devices}
+use Rattle.accepted_facts.proofs.Windows.{super-within, devices-within}
 use Rattle.accepted_facts.specs.Accepted.{Aligned, Within}
 use Rattle.accepted_facts.specs.Guarded.{Guarded}
 use Rattle.layout.specs.Size.{entries, block, l1Span}
@@ -40,7 +41,7 @@ module _ (limit : ℕ) (base sup : List ℕ) (l : Layout) (guarded : Guarded lim
   pub supers-fit : SupersFit l sup
   supers-fit =
       let layout = guarded .layout in
-      let within = layout .windows .1 .1 .0 refl in
+      let within = super-within layout in
       record {
         short = guarded .sup-map .short;
         slots = λ p h some.
@@ -61,4 +62,4 @@ module _ (limit : ℕ) (base sup : List ℕ) (l : Layout) (guarded : Guarded lim
   devices-fit =
       all-map (λ w. (Whole w × Held w) × Gone w) DeviceFits (λ w f. fits w (f .0 .0) (f .0 .1) (f .1)) (devicesOf l)
       (all-both (λ w. Whole w × Held w) Gone (devicesOf l)
-      (all-both Whole Held (devicesOf l) (guarded .layout .devices) (guarded .layout .windows .1 .1 .1)) (absent-devices l))
+      (all-both Whole Held (devicesOf l) (guarded .layout .devices) (devices-within (guarded .layout))) (absent-devices l))

@@ -2,11 +2,11 @@
 use mathlib.Core.Path.{refl}
 use Rattle.arena.specs.Encoded.{encoded, stored, wordAt, upperRuns, leafRuns}
 use Rattle.layout.specs.Layout.{layoutOf}
-use Rattle.encode_theorems.specs.Examples.{SceneS}
+use Rattle.encode_theorems.specs.Examples.{WordsS}
 
-pub scene-S : SceneS
+pub words-S : WordsS
 unfolding layoutOf encoded stored wordAt upperRuns leafRuns
-scene-S =
+words-S =
     record {
       device-table = refl;
       data-table = refl;

@@ -10,7 +10,7 @@ use Rattle.rows.specs.Examples.{sceneS, baseS, supS}
 abbrev pub wordS : ℕ → ℕ → ℕ
 wordS t j = target (layoutOf sceneS) baseS supS ((t - 1) * entries + j)
 
-pub record SceneS : Type 0 where
+pub record WordsS : Type 0 where
   pub device-table : wordS 1 0x000 ≡ 0x0000_0000_4000_5003
   pub data-table : wordS 1 0x002 ≡ 0x0000_0000_4000_2003
   pub super-table : wordS 1 0x003 ≡ 0x0000_0000_4000_4003

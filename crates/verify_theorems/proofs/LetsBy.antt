@@ -20,7 +20,7 @@ use Rattle.rows.specs.Rows.{refusalsAt, guardRows}
 use Rattle.verify_rows.specs.Verifying.{word}
 use Rattle.verify_rows.specs.Word.{readPage, readBlock}
 use Rattle.verify_theorems.specs.Verified.{Guarding, Encoded, encodedWord, Kept, ReadAlike, EncodedVerifies, storedAt, LetsBy}
-use Rattle.verify_theorems.specs.Verified.{LettingBy, SceneS}
+use Rattle.verify_theorems.specs.Verified.{LettingBy, VerificationS}
 use Rattle.verify_theorems.proofs.Stored.{stored-word}
 use Rattle.verify_theorems.proofs.Told.{halves}
 use Rattle.verify_theorems.proofs.Verified.{alike-verifies}
@@ -110,9 +110,9 @@ unfolding layoutOf first flatMap eachFrom pairs row2 row3 row4 row5 row6 row7 ro
     windowRows refusalsAt guardRows
 guarding-S = refl
 
-pub scene-S : SceneS
+pub verification-S : VerificationS
 unfolding layoutOf encoded stored wordAt upperRuns leafRuns
-scene-S arena e =
+verification-S arena e =
     let by : (j d : ℕ) → j < entries → LetsBy arena baseS supS (layoutOf sceneS) j d =
     λ j d h. letting-by arena baseS supS (layoutOf sceneS) j d guarding-S e h in
     record {

@@ -7,6 +7,7 @@ use native.Mathlib.Omega.{arith}
 use lib.Dec.{eqb, leb, ltb}
 use lib.ListN.{length, getD, List·getD-eq-default}
 use borrow.Author.Tests.{eqb-true, eqb-false, leb-true, leb-false, ltb-true, ltb-false, le-leb, lt-ltb, le-ltb}
+use Rattle.accepted_facts.proofs.Windows.{super-within}
 use Rattle.accepted_facts.specs.Guarded.{Guarded}
 use Rattle.arena.proofs.Runs.{run-before, run-past, run-inside}
 use Rattle.arena.specs.Encoded.{superAt, superRun, deviceRun, wordAt}
@@ -72,7 +73,7 @@ module _ (base sup : List ℕ) (l : Layout) (g : Guarded boardLimit base sup l) 
           ≡ wantedLeaf (getD sup m 0) (blockAddress (l .«sup_pa_base» + m * block)) (l .«sup_wx_exempt»)
       by-frame true b e f =
           let k = ltb-true m (l .«sup_frames») e in
-          let in-slot = g .layout .windows .1 .1 .0 refl .inside in
+          let in-slot = super-within (g .layout) .inside in
           let place : at m ≡ from + m = omega (arith, k, in-slot) in
           let p : at m - from ≡ m = omega (arith, place) in
           ap readBlock

@@ -82,5 +82,5 @@ pub record InSceneS (arena : List ℕ) : Type 0 where
   pub normal-block : Verifies (storedAt 6 0x49 0x0000_0000_5000_07FD arena) baseS supS (layoutOf sceneS)
   pub no-access : Verifies (storedAt 6 0x48 0x0040_0000_0900_0401 arena) baseS supS (layoutOf sceneS)
 
-abbrev pub SceneS : Type 0
-SceneS = (arena : List ℕ) → Encoded arena baseS supS (layoutOf sceneS) → InSceneS arena
+abbrev pub VerificationS : Type 0
+VerificationS = (arena : List ℕ) → Encoded arena baseS supS (layoutOf sceneS) → InSceneS arena

@@ -7,6 +7,7 @@ use native.Mathlib.Omega.{arith}
 use lib.ListN.{getD}
 use borrow.Author.Needs.{needs}
 use denote.Ref.{now}
+use Rattle.accepted_facts.proofs.Windows.{image-within, data-within, super-within, devices-within}
 use Rattle.accepted_facts.specs.Accepted.{Within}
 use Rattle.layout.proofs.Counted.{counted, always}
 use Rattle.layout.specs.Size.{boardLimit}
@@ -117,7 +118,7 @@ grant-requires c κs =
     let i = c .before in
     let s = start (ws-1 i) in
     let v = ws-1 i in
-    let within = s .pre .layout .windows .0 in (
+    let within = image-within (s .pre .layout) in (
       sym (i .inside .ensures) ∙ c .if1 .taken,
       output (imageRegion (s .args .l)) [] (s .args .ipa) (win v 0) (is v 0) (i .inside .result) (i .inside .ensures) boardLimit within
           (c .if1 .taken),
@@ -149,7 +150,7 @@ grant-requires-2 c κs =
     let s = start (ws-2 i) in
     let v = ws-2 i in
     let r = dataRegion (s .args .l) (now (s .args .base)) in
-    let within = s .pre .layout .windows .1 .0 in (
+    let within = λ (_ : r .window .present ≡ true). data-within (s .pre .layout) in (
       sym (i .inside2 .ensures) ∙ t .if2 .taken,
       output r [] (s .args .ipa) (win v 1) (is v 1) (i .inside2 .result) (i .inside2 .ensures) boardLimit within (t .if2 .taken),
     )
@@ -183,7 +184,7 @@ grant-requires-3 c κs =
     let s = start (ws-3 i) in
     let v = ws-3 i in
     let r = superRegion (s .args .l) (now (s .args .sup)) in
-    let within = s .pre .layout .windows .1 .1 .0 in (
+    let within = λ (_ : r .window .present ≡ true). super-within (s .pre .layout) in (
       sym (i .inside3 .ensures) ∙ t .if3 .taken,
       output r [] (s .args .ipa) (win v 2) (is v 2) (i .inside3 .result) (i .inside3 .ensures) boardLimit within (t .if3 .taken),
     )
@@ -207,7 +208,7 @@ devices-requires c κs = search needs
 reach-device-requires : tie.Need-reach-device-requires
 reach-device-requires c κs =
     let s = start (ws-3 (c .before .before)) in
-    subst (All (λ (w : Window). w .present ≡ true → Within boardLimit w)) (sym (c .devices .ensures)) (s .pre .layout .windows .1 .1 .1)
+    subst (All (λ (w : Window). w .present ≡ true → Within boardLimit w)) (sym (c .devices .ensures)) (devices-within (s .pre .layout))
 
 returns-5 : tie.Need-returns-5
 returns-5 c =

@@ -47,7 +47,7 @@ pub record AnswersS : Type 0 where
   pub last-step : answerS (stepCount - 1) supS ≡ accepted
   pub fourteen-first : answerS stepCount (0 ∷ 0 ∷ 3 ∷ 0 ∷ 1 ∷ []) ≡ refused (row 14 (4 ∷ []))
 
-pub record SceneS : Type 0 where
+pub record UpdateS : Type 0 where
   pub answers : AnswersS
   pub fills :
       filled (sourceS .frames) 3 (sourceS .edges) (9 ∷ 9 ∷ []) (9 ∷ 9 ∷ 9 ∷ []) ≡ filling baseS supS accepted

@@ -22,7 +22,7 @@ use Rattle.demand_2.specs.Demand2.{addressesOf}
 use Rattle.demand_2.specs.Tabled.{S, reach}
 use Rattle.window_reach.specs.Granted.{grantedBy}
 use Rattle.demand_3.specs.Completing.{fullUpdate, AcceptedSource, Completes}
-use Rattle.demand_3.specs.SceneS.{sourceS, walkAfter, AnswersS, SceneS}
+use Rattle.demand_3.specs.UpdateS.{sourceS, walkAfter, AnswersS, UpdateS}
 use Rattle.demand_3.specs.Sources.{mapsOf, grantedFrom, FilledFrom}
 use Rattle.demand_3.proofs.Completing.{updates-complete}
 use Rattle.demand_3.proofs.Demand3.{demand-3}
@@ -65,8 +65,8 @@ module _ (words : List ℕ) (long : length words ≡ arenaLength) where
       demand-3 .walk (addressesOf S) words (fullUpdate sourceS baseS supS) (completes .premises) words sourceS (λ r. halfway) (λ r. halfway)
       (λ r b. completes .cuts halfway (omega arith)) 0x8000_1234 .at-half-way (λ r b. refl)
 
-pub scene-S : SceneS
-scene-S =
+pub update-S : UpdateS
+update-S =
     record {
       answers = answers;
       fills = fills;
