@@ -24,8 +24,9 @@ same-length c = search needs
 
 returns : tie.Need-returns
 returns c =
-    let v = c .before .before .guard-at in
-    let a = c .before .before .before .before .before .before .before .args in
+    let g = c .before .before in
+    let v = g .guard-at in
+    let a = g .before .before .before .before .before .args in
     record {
       answer = v .ensures;
       words = over-same _ _ (λ i old. ap (λ r. left (outcomeOf r) (a .l) (now (a .base)) (now (a .sup)) i old) (c .enum-told2 .given .1));
@@ -34,8 +35,9 @@ returns c =
 encode-guarded-requires : tie.Need-encode-guarded-requires
 encode-guarded-requires c κs =
     let t = c .before in
-    let v = t .before .before .guard-at in
-    let a = t .before .before .before .before .before .before .before .args in
+    let g = t .before .before in
+    let v = g .guard-at in
+    let a = g .before .before .before .before .before .args in
     let let-by = sym (v .ensures) ∙ ap outcomeOf (t .enum-told .given .1) in
     let facts = arena-guarded-facts (a .limit) (now (a .arena)) (now (a .base)) (now (a .sup)) (a .l) let-by in
     let guarded = facts .1 in

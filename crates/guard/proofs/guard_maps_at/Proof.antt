@@ -27,11 +27,18 @@ Left s rows =
     let a = s .args in
     first (guardRows (a .limit) (a .base .now) (a .sup .now) (a .l)) ≡ first (rows (a .limit) (a .sup .now) (a .l))
 
-past-3 : (c : tie.After-enum-told) → Left (c .before .before .before .before .before) from4
+-- what was passed, seen from behind row 3 and from behind row 12
+abbrev start3 : tie.After-enum-told → tie.Start
+start3 c = c .before .before .before .before .before
+
+abbrev start12 : tie.After-enum-told3 → tie.Start
+start12 c = start3 (c .before .before .before)
+
+past-3 : (c : tie.After-enum-told) → Left (start3 c) from4
 unfolding guardRows flatMap
 past-3 c = let v = c .before .before .maps in next _ _ (v .result) refl (c .enum-told .given .1) (v .ensures)
 
-past-12 : (c : tie.After-enum-told3) → Left (c .before .before .before .before .before .before .before .before) from13
+past-12 : (c : tie.After-enum-told3) → Left (start12 c) from13
 unfolding flatMap
 past-12 c =
     let v = c .before .before .validate-at in
@@ -39,7 +46,7 @@ past-12 c =
 
 distinct :
     (c : tie.After-all-distinct) →
-    let s = c .before .before .before .before .before .before .before .before .before .before in
+    let s = start12 (c .before .before) in
     outcomeOf (c .all-distinct .result) ≡ first (pairs row13 (tablesOf (s .args .l)))
 distinct c = c .all-distinct .ensures ∙ ap (λ ts. first (pairs row13 ts)) (c .before .tables .ensures)
 

@@ -74,8 +74,9 @@ returns : tie.Need-returns
 unfolding wordLine
 returns c =
     let v = c .before in
-    let e = index-line (v .before .before .before) in
-    let word = v .before .before .before .before .before .before .before .before .args .word in
+    let spelled = v .before .before .before in
+    let e = index-line spelled in
+    let word = spelled .before .before .before .before .before .args .word in
     let room = ap (λ (l : List ℕ). digits (length (midOf 6 16 l)) word) e in
     ap₂ (λ (l w : List ℕ). set (putMid 6 16 l w) 22 lineFeed) e (v .spell3 .ensures ∙ room)
 

@@ -29,7 +29,8 @@ of-requires c κs = search needs
 returns : tie.Need-returns
 unfolding dump
 returns c =
-    let r = c .before .before .before .before .before .before .before .read-scene in
+    let lengths = c .before .before .before in
+    let r = lengths .before .before .before .before .read-scene in
     (r .ensures .0, c .of .ensures ∙ ap printedRead (r .ensures .1))
 
 pub read-dump-spec : {M : Type 1} → statement M

@@ -32,10 +32,12 @@ first c =
 
 second :
     (c : tie.After-number-of2) →
-    let f = c .before .before .before .before .before .before .before .before in
+    let one = c .before .before .before .before .before in
+    let f = one .before .before .before in
     c .number-of2 .result ≡ numberOf (afterSpace (now (f .before .before .args .text)))
 second c =
-    let f = c .before .before .before .before .before .before .before .before in
+    let one = c .before .before .before .before .before in
+    let f = one .before .before .before in
     let text = now (f .before .before .args .text) in
     c .number-of2 .ensures
     ∙ ap numberOf (to-end text (f .first-space .result + 1))

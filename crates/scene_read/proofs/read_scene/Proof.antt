@@ -73,8 +73,10 @@ same-length-3 c = search needs
 
 returns : tie.Need-returns Inv-loop μ-loop
 returns c =
-    let v = c .before .before .before .before .before .before .before .before .before in
-    let n = v .before .before .before .before .before .before .before in
+    let lengths = c .before .before .before .before in
+    let v = lengths .before .before .before .before .before in
+    let lent = v .before .before .before in
+    let n = lent .before .before .before .before in
     let r = n .before .before .before in
     let h = r .before .before .before in
     let a = h .before .before .before .before .before .args in
@@ -98,8 +100,10 @@ loop-less c = search needs
 
 loop-again : tie.Need-loop-again Inv-loop μ-loop
 loop-again c =
-    let v = c .before .before .before .before .before .before .before .before .before .before in
-    let n = v .before .before .before .before .before .before .before in
+    let lengths = c .before .before .before .before .before in
+    let v = lengths .before .before .before .before .before in
+    let lent = v .before .before .before in
+    let n = lent .before .before .before .before in
     let r = n .before .before .before in
     let h = r .before .before .before in
     let a = h .before .before .before .before .before .args in

@@ -29,9 +29,11 @@ same-length-3 c = search needs
 
 returns : tie.Need-returns
 returns c =
-    let v = c .before .before .before .before .before .before .before in
-    let said = v .before .before .before .before .line-of in
-    let a = v .before .before .before .before .before .before .before .before .before .args in
+    let lengths = c .before .before .before in
+    let v = lengths .before .before .before .before in
+    let read = v .before .before .before .before in
+    let said = read .line-of in
+    let a = read .before .before .before .before .before .args in
     let old = scene (now (a .numbers)) (now (a .base)) (now (a .sup)) in
     ap₂ readOf (c .says .ensures) (v .apply .ensures) ∙ set-heard old (said .result) ∙ ap (heard old) (said .ensures)
 

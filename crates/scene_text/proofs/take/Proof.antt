@@ -67,9 +67,12 @@ same-length-4 c = search needs
 
 returns : tie.Need-returns Inv-loop μ-loop
 returns c =
-    let v = c .before .before .before .before .before .before .before .before .before .before in
-    let h = v .before .before .before .before .before .before .before in
-    let a = h .before .before .before .before .before .before .before .args in
+    let lengths = c .before .before .before .before .before in
+    let v = lengths .before .before .before .before .before in
+    let lent = v .before .before .before in
+    let h = lent .before .before .before .before in
+    let begun = h .before .before .before in
+    let a = begun .before .before .before .before .args in
     let t = v .take-byte in
     let inv = h .loop .inv in
     let room = length (now (a .line)) in
@@ -90,9 +93,12 @@ loop-less c = search needs
 
 loop-again : tie.Need-loop-again Inv-loop μ-loop
 loop-again c =
-    let v = c .before .before .before .before .before .before .before .before .before .before .before in
-    let h = v .before .before .before .before .before .before .before in
-    let a = h .before .before .before .before .before .before .before .args in
+    let lengths = c .before .before .before .before .before in
+    let v = lengths .before .before .before .before .before .before in
+    let lent = v .before .before .before in
+    let h = lent .before .before .before .before in
+    let begun = h .before .before .before in
+    let a = begun .before .before .before .before .args in
     let t = v .take-byte in
     let inv = h .loop .inv in
     let room = length (now (a .line)) in
@@ -125,7 +131,8 @@ same-length-8 c = search needs
 returns-2 : tie.Need-returns-2 Inv-loop μ-loop
 returns-2 c =
     let h = c .before in
-    let a = h .before .before .before .before .before .before .before .args in
+    let begun = h .before .before .before in
+    let a = begun .before .before .before .before .args in
     let old = scene (h .loop .numbers) (h .loop .base) (h .loop .sup) in
     sym (byte-none (length (now (a .line))) (reading old (take (h .loop .len) (h .loop .line))) (now (a .piece)) (h .loop .i) (omega arith))
     ∙ h .loop .inv .5

@@ -34,7 +34,8 @@ same-length-4 c = search needs
 
 returns : tie.Need-returns
 returns c =
-    let v = c .before .before .before .before .before .before .before in
+    let lengths = c .before .before .before in
+    let v = lengths .before .before .before .before in
     let f = v .before .before .before .before .before in
     let a = f .before .before .before .before .before .args in
     let old = scene (now (a .numbers)) (now (a .base)) (now (a .sup)) in
@@ -56,7 +57,8 @@ same-length-8 c = search needs
 
 returns-2 : tie.Need-returns-2
 returns-2 c =
-    let v = c .before .before .before .before .before .before .before in
+    let lengths = c .before .before .before in
+    let v = lengths .before .before .before .before in
     let f = v .before .before .before .before .before in
     let a = f .before .before .before .before .before .args in
     let old = scene (now (a .numbers)) (now (a .base)) (now (a .sup)) in

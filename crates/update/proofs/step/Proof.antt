@@ -29,8 +29,9 @@ same-length c = search needs
 returns : tie.Need-returns
 unfolding stepRows flatMap
 returns c =
-    let v = c .before .before .guard in
-    let a = c .before .before .before .before .before .before .before .args in
+    let g = c .before .before in
+    let v = g .guard in
+    let a = g .before .before .before .before .before .args in
     let refused = c .enum-told2 .given in
     record {
       answer = stop _ _ (v .result) (refused .0 .0) refl (refused .1) (v .ensures);
@@ -44,10 +45,11 @@ returns-2 : tie.Need-returns-2
 unfolding stepRows flatMap
 returns-2 c =
     let t = c .before in
-    let v = t .before .before .guard in
+    let g = t .before .before in
+    let v = g .guard in
     record {
       answer = sym (next _ _ (v .result) refl (t .enum-told .given .1) (v .ensures)
-          ∙ past-last (t .before .before .before .before .before .before .before .args .n) (c .if1 .taken));
+          ∙ past-last (g .before .before .before .before .before .args .n) (c .if1 .taken));
       words = refl;
     }
 
@@ -63,8 +65,9 @@ mul-arena c = search needs
 slice-write-arena : tie.Need-slice-write-arena
 slice-write-arena c =
     let t = c .before .before .before in
-    let v = t .before .before .guard in
-    let a = t .before .before .before .before .before .before .before .args in
+    let g = t .before .before in
+    let v = g .guard in
+    let a = g .before .before .before .before .before .args in
     let let-by = sym (v .ensures) ∙ ap outcomeOf (t .enum-told .given .1) in
     let facts = arena-guarded-facts boardLimit (now (a .arena)) (now (a .base)) (now (a .sup)) (a .l) let-by in
     omega (arith, facts .0, c .place-of .ensures .1)
@@ -76,8 +79,9 @@ returns-3 : tie.Need-returns-3
 unfolding stepRows flatMap
 returns-3 c =
     let t = c .before .before .before in
-    let v = t .before .before .guard in
-    let a = t .before .before .before .before .before .before .before .args in
+    let g = t .before .before in
+    let v = g .guard in
+    let a = g .before .before .before .before .before .args in
     record {
       answer =
           sym

@@ -190,7 +190,8 @@ unfolding flatMap
 returns-6 c =
     let e = c .before .before .before in
     let l = at9 e .args .l in
-    let held = e .before .before .before .before .before .before .before .capped in
+    let past-6 = e .before .before .before in
+    let held = past-6 .before .before .before .before .capped in
     let sup = e .sup .given .0 .0 in
     last _ (c .windows .result) refl
     (c .windows .ensures

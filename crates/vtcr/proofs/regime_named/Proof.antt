@@ -9,23 +9,32 @@ use Rattle.regime.specs.Codes.{sizeNamed}
 use Rattle.regime.specs.declared.SizeNamed.the-variants.{Size}
 use Rattle.vtcr.specs.Vtcr.{regimeWith, regimeNamed}
 use Rattle.vtcr.specs.declared.DecodedVtcr.the-variants.{Regime}
+use Rattle.vtcr.specs.declared.VtcrFields.{VtcrFields}
 use Rattle.vtcr.proofs.regime_named.Statement.{statement}
 use Rattle.vtcr.proofs.regime_named.Tie as tie
 
-granule :
-    (k : tie.After-known-told) →
-    granuleNamed (k .before .before .before .before .args .fields .tg0) ≡ IsGranule (k .before .granule .given .0 .0)
+-- the fields that were passed, seen from each later place
+abbrev fields : tie.After-known-told → VtcrFields
+fields k = k .before .before .before .before .args .fields
+
+abbrev fields2 : tie.After-known-told2 → VtcrFields
+fields2 k = fields (k .before .before .before .before)
+
+abbrev fields3 : tie.After-known-told3 → VtcrFields
+fields3 k = fields2 (k .before .before .before .before)
+
+granule : (k : tie.After-known-told) → granuleNamed (fields k .tg0) ≡ IsGranule (k .before .granule .given .0 .0)
 granule k = sym (k .before .before .before .from-tg0 .ensures) ∙ k .before .granule .given .1
 
 level :
     (k : tie.After-known-told2) →
-    levelNamed (k .before .before .before .before .before .before .before .before .args .fields .sl0)
+    levelNamed (fields2 k .sl0)
     ≡ Level (k .before .start-level .given .0 .0)
 level k = sym (k .before .before .before .from-sl0 .ensures) ∙ k .before .start-level .given .1
 
 size :
     (k : tie.After-known-told3) →
-    sizeNamed (k .before .before .before .before .before .before .before .before .before .before .before .before .args .fields .ps)
+    sizeNamed (fields3 k .ps)
     ≡ Size (k .before .pa-size .given .0 .0)
 size k = sym (k .before .before .before .from-ps .ensures) ∙ k .before .pa-size .given .1
 

@@ -21,16 +21,18 @@ returns-2 c =
 returns-3 : tie.Need-returns-3
 unfolding row10 first
 returns-3 c =
-    let a = c .before .before .before .before .before .before .before .args in
+    let t = c .before .before .before .before .before in
+    let a = t .before .before .args in
     let past : a .limit < a .w .pa + a .w .span = omega arith in
-    simp (not-false (a .w .present) (c .before .before .before .before .before .if1 .left), lt-ltb _ _ past)
+    simp (not-false (a .w .present) (t .if1 .left), lt-ltb _ _ past)
 
 returns-4 : tie.Need-returns-4
 unfolding row10 first
 returns-4 c =
-    let a = c .before .before .before .before .before .before .before .args in
+    let t = c .before .before .before .before .before in
+    let a = t .before .before .args in
     let within : a .w .pa + a .w .span ≤ a .limit = omega arith in
-    simp (not-false (a .w .present) (c .before .before .before .before .before .if1 .left), le-ltb _ _ within)
+    simp (not-false (a .w .present) (t .if1 .left), le-ltb _ _ within)
 
 pub reached-spec : {M : Type 1} → statement M
 reached-spec = tie.close (tie.spec returns returns-2 returns-3 returns-4)

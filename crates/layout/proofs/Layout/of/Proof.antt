@@ -61,8 +61,10 @@ element-copy-out-t52 c = search needs
 returns : tie.Need-returns
 unfolding layoutOf
 returns c =
-    let frames = c .before .before .before .before .before .before .before .before in
-    let image = frames .before .before .before .before .before .before .before in simp (image .of .ensures)
+    let sup = c .before .before .before .before in
+    let frames = sup .before .before .before .before in
+    let bases = frames .before .before .before in
+    let image = bases .before .before .before .before in simp (image .of .ensures)
 
 pub of-spec : {M : Type 1} → statement M
 of-spec =

@@ -40,17 +40,18 @@ encoded-requires c κs = search needs
 returns : tie.Need-returns
 unfolding numbersOf
 returns c =
+    let v = c .before .before .before .before .before .before in
     simp (
-      c .before .before .before .before .before .before .valid .ensures,
+      v .valid .ensures,
       c .before .before .before .before .before .is-determined .ensures,
       c .before .before .before .before .determined .ensures,
       c .before .before .before .is-determined2 .ensures,
       c .before .before .determined2 .ensures,
       c .before .is-encoded .ensures,
       c .encoded .ensures,
-      c .before .before .before .before .before .before .before .before .before .t0sz .ensures,
-      c .before .before .before .before .before .before .before .before .table-align .ensures,
-      c .before .before .before .before .before .before .before .vtcr-el2 .ensures,
+      v .before .before .before .t0sz .ensures,
+      v .before .before .table-align .ensures,
+      v .before .vtcr-el2 .ensures,
     )
 
 pub numbers-of-spec : {M : Type 1} → statement M

@@ -1,4 +1,6 @@
 -- `regime_named` meets its contract: each look-up decides what the numbers name so far.
+use Prim.Native.Nat.{ℕ}
+use mathlib.Core.List.{List}
 use mathlib.Core.Path.{_≡_, _∙_, sym}
 use lib.ListN.{getD}
 use borrow.Author.Needs.{needs}
@@ -13,25 +15,28 @@ use Rattle.probe.specs.Regimes.{regimeByCodes}
 use Rattle.probe.proofs.regimes.regime_named.Statement.{statement}
 use Rattle.probe.proofs.regimes.regime_named.Tie as tie
 
-granule :
-    (k : tie.After-known-told) →
-    granuleNamed (getD (now (k .before .before .before .before .before .args .x)) 0 0) ≡ IsGranule (k .before .granule .given .0 .0)
+-- the numbers that were passed, seen from each later place
+abbrev numbers : tie.After-known-told → List ℕ
+numbers k = now (k .before .before .before .before .before .args .x)
+
+abbrev numbers2 : tie.After-known-told2 → List ℕ
+numbers2 k = numbers (k .before .before .before .before .before)
+
+abbrev numbers3 : tie.After-known-told3 → List ℕ
+numbers3 k = numbers2 (k .before .before .before .before .before)
+
+granule : (k : tie.After-known-told) → granuleNamed (getD (numbers k) 0 0) ≡ IsGranule (k .before .granule .given .0 .0)
 granule k = sym (k .before .before .before .from-tg0 .ensures) ∙ k .before .granule .given .1
 
 level :
     (k : tie.After-known-told2) →
-    levelNamed (getD (now (k .before .before .before .before .before .before .before .before .before .before .args .x)) 2 0)
+    levelNamed (getD (numbers2 k) 2 0)
     ≡ Level (k .before .start-level .given .0 .0)
 level k = sym (k .before .before .before .from-sl0 .ensures) ∙ k .before .start-level .given .1
 
 size :
     (k : tie.After-known-told3) →
-    sizeNamed
-    (getD
-    (now (k .before .before .before .before .before .before .before .before .before .before .before .before .before .before .before .args
-    .x))
-    3
-    0)
+    sizeNamed (getD (numbers3 k) 3 0)
     ≡ Size (k .before .pa-size .given .0 .0)
 size k = sym (k .before .before .before .from-ps .ensures) ∙ k .before .pa-size .given .1
 
