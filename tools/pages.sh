@@ -46,7 +46,8 @@ says include/dervhalt_s2.h "#define S2_VTCR_EL2 $(echo "$vtcr" | tr -d _)ull"
 says board/README.md "VTCR_EL2 is $(echo "$vtcr" | tr -d _) "
 
 # Each exported call has a contract, over `values` at exit; the step assigns to the arena once.
-awk '/pub extern "C" fn/ { calls++; open = 1 } /ensures/ && open { described += /values \.exit/; open = 0 }
+awk '/pub extern "C" fn/ { calls++; open = 1 } /ensures/ && open { clause = 1 } clause && /values \.exit/ { described++; clause = 0 }
+    /^{/ { open = clause = 0 }
     END { if (calls != described) { print "an exported call is not described"; exit 1 } }' crates/s2/src/lib.rt
 [ "$(grep -c 'arena\[.*\] = ' crates/update/src/lib.rt)" = 1 ] || { echo "the step does not have one assignment to the arena"; exit 1; }
 echo "pages: paths and counts are as they say"
