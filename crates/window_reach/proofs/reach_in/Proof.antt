@@ -149,10 +149,10 @@ grant-requires-2 c κs =
     let i = t .before in
     let s = start (ws-2 i) in
     let v = ws-2 i in
-    let r = dataRegion (s .args .l) (now (s .args .base)) in
-    let within = λ (_ : r .window .present ≡ true). data-within (s .pre .layout) in (
+    let r = dataRegion (s .args .l) (now (s .args .base)) in (
       sym (i .inside2 .ensures) ∙ t .if2 .taken,
-      output r [] (s .args .ipa) (win v 1) (is v 1) (i .inside2 .result) (i .inside2 .ensures) boardLimit within (t .if2 .taken),
+      output r [] (s .args .ipa) (win v 1) (is v 1) (i .inside2 .result) (i .inside2 .ensures) boardLimit
+          (λ _. data-within (s .pre .layout)) (t .if2 .taken),
     )
 
 returns-3 : tie.Need-returns-3
@@ -183,10 +183,10 @@ grant-requires-3 c κs =
     let i = t .before in
     let s = start (ws-3 i) in
     let v = ws-3 i in
-    let r = superRegion (s .args .l) (now (s .args .sup)) in
-    let within = λ (_ : r .window .present ≡ true). super-within (s .pre .layout) in (
+    let r = superRegion (s .args .l) (now (s .args .sup)) in (
       sym (i .inside3 .ensures) ∙ t .if3 .taken,
-      output r [] (s .args .ipa) (win v 2) (is v 2) (i .inside3 .result) (i .inside3 .ensures) boardLimit within (t .if3 .taken),
+      output r [] (s .args .ipa) (win v 2) (is v 2) (i .inside3 .result) (i .inside3 .ensures) boardLimit
+          (λ _. super-within (s .pre .layout)) (t .if3 .taken),
     )
 
 returns-4 : tie.Need-returns-4
