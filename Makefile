@@ -29,7 +29,7 @@ test: ## 27 min ## the gate: every proof and edit from nothing, then compare, ar
 	@rt fmt --check
 	@echo "rt ci: $$(awk -f tools/needed.awk crates.txt) crates to prove, $$(ls crates/*/must-fail/*.edit | wc -l) edits to be refused"
 	@RT_JOBS=$${RT_JOBS:-4} tools/progress.sh target/ci.log rt ci
-	@$(MAKE) --no-print-directory --jobs=2 --output-sync compare arm-short board scenes header pages
+	@$(MAKE) --no-print-directory --jobs=3 --output-sync compare arm-short board scenes header pages
 	@tail -n 2 target/ci.log
 
 help: ## 0 s ## lists the targets
