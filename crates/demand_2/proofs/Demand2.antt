@@ -4,7 +4,7 @@ use mathlib.Core.Bool.{Bool, true, false, false≢true}
 use mathlib.Core.List.{List, [], _∷_}
 use mathlib.Core.Path.{_≡_, refl, sym, ap, subst, _∙_}
 use native.Mathlib.Omega.{arith}
-use lib.Dec.{eqb, ltb}
+use lib.Dec.{ltb}
 use lib.ListN.{getD, take, replicate, length-replicate}
 use borrow.Author.Tests.{eqb-true, eq-eqb, ne-eqb, ltb-true, ltb-false}
 use Rattle.accepted_facts.proofs.Guarded.{guarded-facts, arena-guarded-facts}
@@ -20,7 +20,7 @@ use Rattle.fields.specs.Named.{pick}
 use Rattle.layout.specs.Area.{areaHas}
 use Rattle.layout.specs.Layout.{tableIf, tablesOf}
 use Rattle.layout.specs.Size.{entries, page, block, inputLimit, boardLimit, tableCount, arenaLength}
-use Rattle.layout.specs.Window.{imageWindow, deviceWindow, l1Slot, l2Slot, slot}
+use Rattle.layout.specs.Window.{imageWindow, deviceWindow, l1Slot, l2Slot}
 use Rattle.layout.specs.declared.GuestImage.{GuestImage}
 use Rattle.layout.specs.declared.GuestImage.the-variants.{At, Absent}
 use Rattle.layout.specs.declared.Layout.{Layout}
