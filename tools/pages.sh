@@ -24,6 +24,10 @@ for statement in $calls $demand2 $demand3 $dump; do
 done
 says docs/TRUST.md "$(believed $calls $demand2 $demand3 $dump)"
 
+for edits in crates/*/must-fail; do
+    crate=${edits%/must-fail}
+    says docs/SABOTAGE.md "\`${crate#crates/}\` $(ls "$edits" | wc -l)"
+done
 says docs/SABOTAGE.md "There are $(ls crates/*/must-fail/*.edit | wc -l), in $(ls -d crates/*/must-fail | wc -l) crates"
 
 definitions=$(grep -l '^file: specs' crates/*/must-fail/*.edit | wc -l)
@@ -46,8 +50,10 @@ says include/dervhalt_s2.h "#define S2_VTCR_EL2 $(echo "$vtcr" | tr -d _)ull"
 says board/README.md "VTCR_EL2 is $(echo "$vtcr" | tr -d _) "
 
 # Each exported call has a contract, over `values` at exit; the step assigns to the arena once.
-awk '/pub extern "C" fn/ { calls++; open = 1 } /ensures/ && open { clause = 1 } clause && /values \.exit/ { described++; clause = 0 }
-    /^{/ { open = clause = 0 }
-    END { if (calls != described) { print "an exported call is not described"; exit 1 } }' crates/s2/src/lib.rt
+described=$(awk '/^(pub )?(extern "C" )?fn / { call = clause = 0 } /^pub extern "C" fn/ { calls++; call = 1 } /ensures/ && call { clause = 1 }
+    clause && /values \.exit/ { said++; call = clause = 0 } /^{/ { call = clause = 0 }
+    END { if (calls == said) print calls " and " said }' crates/s2/src/lib.rt)
+[ -n "$described" ] || { echo "an exported call is not described"; exit 1; }
+says docs/SABOTAGE.md "$described"
 [ "$(grep -c 'arena\[.*\] = ' crates/update/src/lib.rt)" = 1 ] || { echo "the step does not have one assignment to the arena"; exit 1; }
 echo "pages: paths and counts are as they say"

@@ -20,7 +20,7 @@ module _ (words : Words) (all : (i : ℕ) → i < arenaLength → words i ≡ ta
   walked : (x : ℕ) → walkOf (addressesOf S) (λ left. words) x ≡ granted S baseS supS x
   walked x =
       reaches-whole S baseS supS words
-      (arena-guarded-facts boardLimit (replicate arenaLength 0) baseS supS S (Rows.examples .S) .1) all x .walks
+      (arena-guarded-facts boardLimit (replicate arenaLength 0) baseS supS S (Rows.row-examples .S) .1) all x .walks
 
   walks-of-S : WalksOfS words
   unfolding layoutOf grantedBy
@@ -37,4 +37,4 @@ module _ (words : Words) (all : (i : ℕ) → i < arenaLength → words i ≡ ta
       }
 
 pub tabled : Tabled
-tabled = record { walks = walks-of-S; edges = Leaves.examples .four-edges }
+tabled = record { walks = walks-of-S; edges = Leaves.leaf-examples .four-edges }

@@ -44,7 +44,7 @@ accepted-S : AcceptedSource (addressesOf S) sourceS baseS supS
 accepted-S =
     record {
       maps = from-S;
-      lets-by = maps-let-by boardLimit (replicate arenaLength 0) baseS supS S (Rows.examples .S);
+      lets-by = maps-let-by boardLimit (replicate arenaLength 0) baseS supS S (Rows.row-examples .S);
       same-tables = refl;
     }
 

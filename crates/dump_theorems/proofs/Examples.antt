@@ -12,7 +12,7 @@ use Rattle.rows.specs.Rows.{refusalsAt, guardRows}
 use Rattle.scene.specs.Scene.{withField}
 use Rattle.scene_line.specs.Line.{lineOf, saidAfter, said, firstSpace, numberOf, digitOf}
 use Rattle.scene_text.specs.Text.{readFrom, linesOf}
-use Rattle.dump_theorems.specs.Examples.{DumpS, Examples}
+use Rattle.dump_theorems.specs.Examples.{DumpS, DumpExamples}
 
 pub dump-S : DumpS
 unfolding dump printedOf inOrder lineAt wordLine badLine decimal refusedLine readFrom linesOf lineOf saidAfter said firstSpace numberOf
@@ -20,11 +20,11 @@ unfolding dump printedOf inOrder lineAt wordLine badLine decimal refusedLine rea
     pairRows windowRows refusalsAt guardRows encoded stored wordAt upperRuns leafRuns
 dump-S = refl
 
-pub examples : Examples
+pub dump-examples : DumpExamples
 unfolding dump printedOf inOrder lineAt wordLine badLine decimal refusedLine readFrom linesOf lineOf saidAfter said firstSpace numberOf
     digitOf withField layoutOf first flatMap eachFrom pairs row2 row3 row4 row5 row6 row7 row8 row9 row10 row13 row14 lengthRows mapRows
     pairRows windowRows refusalsAt guardRows encoded stored wordAt upperRuns leafRuns
-examples =
+dump-examples =
     record {
       empty = refl;
       two-digits = refl;

@@ -48,7 +48,7 @@ printedOfS =
 abbrev pub DumpS : Type 0
 DumpS = dump (bytes linesOfS) ≡ bytes printedOfS
 
-pub record Examples : Type 0 where
+pub record DumpExamples : Type 0 where
   -- 'empty input is refused by 5'
   pub empty : dump [] ≡ ascii "REFUSED 5\n"
   -- a row's number of two digits: data pa 2^48

@@ -8,12 +8,12 @@ use Rattle.exact.specs.Exact.{lands, afterEdge, afterEdges, row25, comparedRows
 use Rattle.filling.specs.Filling.{putIn, placed, onward, placedAll, row17, conflicts, started, filled}
 use Rattle.refusal.specs.Table.{first, eachFrom}
 use Rattle.rows.specs.Rows.{row2, row3, lengthRows, readRows}
-use Rattle.leafmap_theorems.specs.Examples.{Examples}
+use Rattle.leafmap_theorems.specs.Examples.{LeafExamples}
 
-pub examples : Examples
+pub leaf-examples : LeafExamples
 unfolding first flatMap eachFrom row2 row3 lengthRows readRows owns counts covers putIn placed onward placedAll row17 conflicts started
     filled hasGrant ownerRows reachRows authorityRows lands afterEdge afterEdges row25 comparedRows
-examples =
+leaf-examples =
     record {
       four-edges = refl;
       row2 = refl;

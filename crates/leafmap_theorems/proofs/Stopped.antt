@@ -26,8 +26,8 @@ use Rattle.leafmap_theorems.proofs.Entries.{putBy, held as conflicts-he
 record StoppedFrom (frames : List (List ℕ)) (dom : ℕ) (edges : List Edge) (f : Filling) (r : Row) : Type 0 where
   before : List Edge
   failing : Edge
-  after : List Edge
-  split : edges ≡ before ++ failing ∷ after
+  rest : List Edge
+  split : edges ≡ before ++ failing ∷ rest
   placed-before : placedAll frames dom before f .outcome ≡ accepted
   fails : placed frames dom (placedAll frames dom before f) failing .outcome ≡ refused r
   held : (s : Span) → mapOf s (placedAll frames dom edges f) ≡ mapOf s (placedAll frames dom before f)
@@ -82,7 +82,7 @@ module _ (frames : List (List ℕ)) (dom : ℕ) where
       record {
         before = [];
         failing = e;
-        after = es;
+        rest = es;
         split = refl;
         placed-before = ap (λ (g : Filling). g .outcome) none ∙ a;
         fails =
@@ -100,7 +100,7 @@ module _ (frames : List (List ℕ)) (dom : ℕ) where
       record {
         before = e ∷ s .before;
         failing = s .failing;
-        after = s .after;
+        rest = s .rest;
         split = ap (λ xs. e ∷ xs) (s .split);
         placed-before = ap (λ (g : Filling). g .outcome) first ∙ s .placed-before;
         fails = ap (λ g. placed frames dom g (s .failing) .outcome) first ∙ s .fails;
@@ -148,7 +148,7 @@ refused-holds frames dom edges n m r h = go (f .outcome) refl
         (record {
           before = s .before;
           failing = s .failing;
-          after = s .after;
+          rest = s .rest;
           split = s .split;
           placed-before = s .placed-before;
           fails = s .fails;

@@ -59,8 +59,8 @@ FilledExact =
 pub record Stopped (frames : List (List ℕ)) (dom : ℕ) (edges : List Edge) (n m : ℕ) (r : Row) : Type 0 where
   pub before : List Edge
   pub failing : Edge
-  pub after : List Edge
-  pub split : edges ≡ before ++ failing ∷ after
+  pub rest : List Edge
+  pub split : edges ≡ before ++ failing ∷ rest
   pub placed-before : placedAll frames dom before (clearedMaps n m) .outcome ≡ accepted
   pub fails : placed frames dom (placedAll frames dom before (clearedMaps n m)) failing .outcome ≡ refused r
   pub held : (s : Span) → mapOf s (filledInto frames dom edges n m) ≡ mapOf s (placedAll frames dom before (clearedMaps n m))

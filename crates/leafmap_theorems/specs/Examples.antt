@@ -38,7 +38,7 @@ FourEdges =
     fill (edge 2 0 0 1 1 0 ∷ edge 2 1 1 1 1 1 ∷ edge 2 2 2 0 1 1 ∷ plain 2 3 ∷ []) (9 ∷ 9 ∷ 9 ∷ 9 ∷ 9 ∷ []) (9 ∷ [])
     ≡ filling (2 ∷ 2 ∷ 3 ∷ 1 ∷ 0 ∷ []) (0 ∷ []) accepted
 
-pub record Examples : Type 0 where
+pub record LeafExamples : Type 0 where
   pub four-edges : FourEdges
   -- a map of 513 is refused before anything is cleared
   pub row2 : fill [] (9 ∷ []) (replicate 513 9) ≡ filling (9 ∷ []) (replicate 513 9) (refused (row 2 []))

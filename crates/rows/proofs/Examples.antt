@@ -3,14 +3,14 @@ use mathlib.Core.List.{flatMap}
 use mathlib.Core.Path.{refl}
 use Rattle.layout.specs.Layout.{layoutOf}
 use Rattle.refusal.specs.Table.{first, eachFrom, pairs}
-use Rattle.rows.specs.Examples.{Examples}
+use Rattle.rows.specs.Examples.{RowExamples}
 use Rattle.rows.specs.Rows.{row1, row2, row3, row4, row5, row6, row7, row8, row9, row10, row13, row14, lengthRows, mapRows, pairRows}
 use Rattle.rows.specs.Rows.{windowRows, refusalsAt, guardRows, arenaGuardRows}
 
-pub examples : Examples
+pub row-examples : RowExamples
 unfolding layoutOf first flatMap eachFrom pairs row1 row2 row3 row4 row5 row6 row7 row8 row9 row10 row13 row14 lengthRows mapRows pairRows
     windowRows refusalsAt guardRows arenaGuardRows
-examples =
+row-examples =
     record {
       S = refl;
       row1 = refl;

@@ -66,7 +66,7 @@ pub record Ordered : Type 0 where
       guarded arenaLength baseS (0 ∷ 0 ∷ 0 ∷ 0 ∷ 1 ∷ []) (line 6 0x4000_0000 sceneS) ≡ refused (row 13 (1 ∷ 6 ∷ []))
   pub base-super : guarded arenaLength (4 ∷ []) (4 ∷ []) sceneS ≡ refused (row 3 (1 ∷ 0 ∷ []))
 
-pub record Examples : Type 0 where
+pub record RowExamples : Type 0 where
   pub S : guarded arenaLength baseS supS sceneS ≡ accepted
   pub row1 : guarded (arenaLength - 1) baseS supS sceneS ≡ refused (row 1 [])
   pub row2 : guarded arenaLength (replicate 513 0) supS sceneS ≡ refused (row 2 [])

@@ -16,7 +16,7 @@ use Rattle.rows.specs.Rows.{windowRows, refusalsAt, guardRows}
 use Rattle.verify_theorems.proofs.Changed.{sorted, drawn, first-drawn}
 use Rattle.verify_theorems.proofs.LetsBy.{encoded-verifies}
 use Rattle.verify_theorems.proofs.Told.{halves}
-use Rattle.verify_theorems.specs.Examples.{Tabled, Wrong, wrong, unnamed, spare, leafless, faultOf, wrongs, imageHighS, apartS}
+use Rattle.verify_theorems.specs.Examples.{VerifyExamples, Wrong, wrong, unnamed, spare, leafless, faultOf, wrongs, imageHighS, apartS}
 use Rattle.verify_theorems.specs.Examples.{verdict, ToldInOrder, Sound, SoundScenes, BeforeWords}
 use Rattle.verify_theorems.specs.Verified.{Guarding, Verifies}
 use Rattle.verify_rows.specs.Verifying.{liveRow, l1Rows, encodingRows, verifyRows}
@@ -75,9 +75,9 @@ two-apart arena (w ∷ x ∷ ws) good =
     let other = eqb-false (placeOf w) (placeOf x) (not-true _ (parts .0)) in
     rw (set-comm arena (placeOf x) (placeOf w) (x .word) (w .word) (λ e. other (sym e)), two-apart arena (x ∷ ws) (parts .1))
 
-pub examples : Tabled
+pub verify-examples : VerifyExamples
 unfolding layoutOf first flatMap row18 row19 leafRow blockRow
-examples arena withImage v w =
+verify-examples arena withImage v w =
     record {
       row18 = alone-told sceneS arena v (unnamed 1 2 0x4000_2000) refl;
       row19 = alone-told imageHighS withImage w (wrong 2 0 0 (row 19 [])) refl;

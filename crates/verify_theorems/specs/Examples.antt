@@ -40,8 +40,8 @@ pub record Examples (arena withImage : List ℕ) : Type 0 where
       ≡ refused (row 20 (1 ∷ 1 ∷ 0x5000_2000 ∷ 1 ∷ 1 ∷ 1 ∷ 0x5000_1000 ∷ 2 ∷ []))
 
 -- of any arenas that verify
-abbrev pub Tabled : Type 0
-Tabled =
+abbrev pub VerifyExamples : Type 0
+VerifyExamples =
     (arena withImage : List ℕ) →
     Verifies arena baseS supS (layoutOf sceneS) →
     Verifies withImage baseS supS (layoutOf imageHighS) → Examples arena withImage
