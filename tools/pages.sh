@@ -1,6 +1,6 @@
 #!/bin/sh
-# Holds what the pages say to the files: every path is there; the definitions that must be believed, the edits and the described calls are as
-# many; so much stack is taken; and the board's register has its value. And make help lists every target that is no step of another.
+# Holds what the pages say to the files: every path and name is there; the definitions that must be believed, the edits and the described
+# calls are as many; so much stack is taken; and the board's register has its value. And make help lists every target that is no step of another.
 set -eu
 cd "$(dirname "$0")/.."
 pages="README.md NOTICE docs/*.md crates/README.md oracle/README.md arm/README.md board/README.md"
@@ -13,6 +13,12 @@ says() {
 grep -ohP '(?<![/.])\b(crates|oracle|arm|board|sabotage|tools|scenes|docs|include)/[A-Za-z0-9_./-]*[A-Za-z0-9]' $pages | sort -u | grep -v NAME |
     while read -r path; do
         [ -e "$path" ] || { echo "no $path, which a page names"; exit 1; }
+    done
+
+# A theorem, field or seeded fault that a page names, by its hyphen, has that name.
+grep -ohP '`\K[a-z]+(-[A-Za-z0-9]+)+(?=`)' README.md docs/*.md | sort -u | grep -vx -e qemu-aarch64 -e rust-version |
+    while read -r name; do
+        grep -rqF -- "$name" crates oracle arm board/dervhalt-s2/Cargo.toml board/dervhalt-s2/src || { echo "nothing is called $name, which a page names"; exit 1; }
     done
 
 believed() {
@@ -56,4 +62,4 @@ described=$(awk '/^(pub )?(extern "C" )?fn / { call = clause = 0 } /^pub extern 
 [ -n "$described" ] || { echo "an exported call is not described"; exit 1; }
 says docs/SABOTAGE.md "$described"
 [ "$(grep -c 'arena\[.*\] = ' crates/update/src/lib.rt)" = 1 ] || { echo "the step does not have one assignment to the arena"; exit 1; }
-echo "pages: paths and counts are as they say"
+echo "pages: paths, names and counts are as they say"
