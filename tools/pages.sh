@@ -18,7 +18,7 @@ grep -ohP '(?<![/.])\b(crates|oracle|arm|board|sabotage|tools|scenes|docs|includ
 # A theorem, field or seeded fault that a page names, by its hyphen, has that name.
 grep -ohP '`\K[a-z]+(-[A-Za-z0-9]+)+(?=`)' README.md docs/*.md | sort -u | grep -vx -e qemu-aarch64 -e rust-version |
     while read -r name; do
-        grep -rqF -- "$name" crates oracle arm board/dervhalt-s2/Cargo.toml board/dervhalt-s2/src || { echo "nothing is called $name, which a page names"; exit 1; }
+        grep -rqF --exclude-dir=target -- "$name" crates oracle arm board/dervhalt-s2/Cargo.toml board/dervhalt-s2/src || { echo "nothing is called $name, which a page names"; exit 1; }
     done
 
 believed() {
