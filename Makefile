@@ -46,7 +46,7 @@ NUMBERED = crates/layout/src/lib.rt crates/update/src/lib.rt crates/p2m/src/lib.
 header: ## 1 s ## holds the C header to the exported calls and numbers
 	@mkdir -p target
 	@$(CC) -std=c99 -Wall -Wextra -Werror -fsyntax-only -x c include/dervhalt_s2.h
-	@awk -f tools/prototypes.awk crates/layout/src/lib.rt crates/edge/src/lib.rt crates/s2/src/lib.rt >target/exported
+	@awk -f tools/prototypes.awk crates/layout/src/lib.rt crates/numbers/src/lib.rt crates/edge/src/lib.rt crates/s2/src/lib.rt >target/exported
 	@$(CC) -E -P include/dervhalt_s2.h | tr '\n' ' ' | \
 	    sed -e :field -e 's/\(struct s2_[a-z]* {[^;}]*\);/\1,/' -e tfield | tr ';' '\n' | \
 	    sed 's/  */ /g; s/^ //; s/( /(/g' | grep ' s2_' >target/declared

@@ -30,6 +30,24 @@ for statement in $calls $demand2 $demand3 $dump; do
 done
 says docs/TRUST.md "$(believed $calls $demand2 $demand3 $dump)"
 
+# Each subject's files have as many lines, and all of them together are what the four statements rest on.
+awk -F ' *[|] *' '$3 ~ /^`crates\/.*antt`$/ { gsub(/[`,]/, "", $3); print $4, $3 }' docs/TRUST.md | while read -r lines files; do
+    [ "$(cat $files | wc -l)" = "$lines" ] || { echo "docs/TRUST.md has another count of lines of $files"; exit 1; }
+done
+rest() {
+    awk -f tools/believed.awk $calls $demand2 $demand3 $dump | sed -n 's/^[0-9]*\t//p' | sort
+}
+awk -F ' *[|] *' '$3 ~ /^`crates\/.*antt`$/ { gsub(/[`,]/, "", $3); gsub(/ /, "\n", $3); print $3 }' docs/TRUST.md | sort >target/subjects
+rest | diff - target/subjects >target/unread || { echo "docs/TRUST.md does not list, or lists beside them:"; cat target/unread; exit 1; }
+
+# An edit that a page names is in the folder of the path before it.
+grep -ohP 'crates/[a-z0-9_]+/must-fail/[a-z0-9_]+\.edit(, [a-z0-9_]+\.edit)*' docs/*.md | sort -u | while read -r named; do
+    folder=${named%%/must-fail/*}/must-fail
+    for edit in $(echo "${named#"$folder"/}" | tr -d ,); do
+        [ -e "$folder/$edit" ] || { echo "no $folder/$edit, which a page names"; exit 1; }
+    done
+done
+
 for edits in crates/*/must-fail; do
     crate=${edits%/must-fail}
     says docs/SABOTAGE.md "\`${crate#crates/}\` $(ls "$edits" | wc -l)"

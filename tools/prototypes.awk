@@ -1,7 +1,7 @@
 # Prints the C prototype of each exported function of the Rattle files, one to a line, as a C preprocessor leaves it, and each struct
 # that they may lend, with commas in the place of semicolons. A layout is lent as its numbers: the struct's fields stand in the order of
-# the places that `Layout::of` reads them at.
-# awk -f tools/prototypes.awk crates/layout/src/lib.rt crates/edge/src/lib.rt crates/s2/src/lib.rt
+# the places that `layout_of` reads them at.
+# awk -f tools/prototypes.awk crates/layout/src/lib.rt crates/numbers/src/lib.rt crates/edge/src/lib.rt crates/s2/src/lib.rt
 
 /^    pub const [A-Z_]+: (usize|u64) = (0x)?[0-9A-F]+;/ {
     sub(/:/, "", $3)
@@ -16,7 +16,7 @@
     constant_of["Layout::" $3] = constant_of[$6] + $10
 }
 
-/^    pub fn of\(x: &\[u64; Self::NUMBERS\]\)/ { numbered = 1 }
+/^pub fn layout_of\(x: &\[u64; Layout::NUMBERS\]\)/ { numbered = 1 }
 
 # The image's presence and address.
 numbered && /GuestImage::of/ {
@@ -31,7 +31,7 @@ numbered && /: x\[[0-9]+\]/ {
     field[place($0)] = $1
 }
 
-numbered && /^    }/ {
+numbered && /^}/ {
     text = record("Layout") " {"
     for (at = 0; at < constant_of["Layout::NUMBERS"]; at++)
         text = text " " number("u64") " " field[at] ","

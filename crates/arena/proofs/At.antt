@@ -6,19 +6,19 @@ use mathlib.Core.Path.{_≡_, refl, sym, ap, _∙_}
 use native.Mathlib.Omega.{arith}
 use lib.Dec.{eqb, leb, ltb}
 use borrow.Author.Tests.{eqb-true, eqb-false, leb-true, ltb-true, ltb-false, ne-eqb}
-use Rattle.fields.specs.Named.{pick}
-use Rattle.layout.specs.Area.{area, areasOf, areaSlot, areaHas}
-use Rattle.layout.specs.Size.{tableCount}
-use Rattle.layout.specs.Window.{window, imageWindow, deviceWindow, l2Slot}
-use Rattle.layout.specs.declared.Area.{Area}
-use Rattle.layout.specs.declared.Layout.{Layout}
-use Rattle.layout.specs.declared.Window.{Window}
-use Rattle.refusal.proofs.All.{all-map}
-use Rattle.refusal.specs.All.{All, AllPairs}
+use Rattle.areas.specs.Area.{area, areasOf, areaSlot, areaHas}
+use Rattle.areas.specs.declared.Area.{Area}
 use Rattle.arena.specs.Encoded.{Run, one, presentRun, tableOf, indexOf, wordAt, overwrite, stored, cleared, encoded, target}
 use Rattle.arena.specs.Encoded.{pageRun, superRun, deviceRun, imageRun, pageTableRun, areaRun, upperRuns, leafRuns, runsOf}
 use Rattle.arena.specs.Word.{tableTo, imageTo}
 use Rattle.arena.proofs.Runs.{other, before, past, inside, empty}
+use Rattle.fields.specs.Named.{pick}
+use Rattle.layout.specs.Size.{tableCount}
+use Rattle.layout.specs.Window.{window, imageWindow, deviceWindow, l2Slot}
+use Rattle.layout.specs.declared.Layout.{Layout}
+use Rattle.layout.specs.declared.Window.{Window}
+use Rattle.refusal.proofs.All.{all-map}
+use Rattle.refusal.specs.All.{All, AllPairs}
 
 -- the runs of one table
 abbrev pub only : ℕ → List Run → List Run

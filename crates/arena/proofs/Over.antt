@@ -9,13 +9,13 @@ use lib.Dec.{eqb, ltb}
 use lib.ListN.{length, getD, set, take, length-set}
 use lib.Seq.{take-suc, getD-set-same, getD-set-other}
 use borrow.Author.Tests.{eqb-true, eqb-false, ltb-true, ltb-false, ne-eqb}
-use Rattle.fields.specs.Named.{pick}
-use Rattle.layout.specs.Size.{entries}
-use Rattle.layout.specs.declared.Area.{Area}
+use Rattle.areas.specs.declared.Area.{Area}
 use Rattle.arena.specs.Encoded.{Run, run, one, presentRun, tableOf, indexOf, wordAt, overwrite, stored, areaRun}
 use Rattle.arena.specs.Over.{Over}
 use Rattle.arena.proofs.At.{noArea}
 use Rattle.arena.proofs.Runs.{other, before, past, inside, grows, stored-append, empty, no-word}
+use Rattle.fields.specs.Named.{pick}
+use Rattle.layout.specs.Size.{entries}
 
 pub over-then :
     (f g : ℕ → ℕ → ℕ) (xs ys zs : List ℕ) → Over f xs ys → Over g ys zs → Over (λ i old. g i (f i old)) xs zs

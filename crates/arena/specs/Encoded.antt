@@ -4,14 +4,14 @@ use mathlib.Core.Bool.{Bool, _&&_}
 use mathlib.Core.List.{List, [], _∷_, _++_, map, foldl}
 use lib.Dec.{eqb, leb, ltb}
 use lib.ListN.{getD}
+use Rattle.areas.specs.Area.{areasOf, areaSlot}
+use Rattle.areas.specs.declared.Area.{Area}
+use Rattle.arena.specs.Word.{tableTo, pageTo, blockTo, imageTo, deviceTo, leafFor}
 use Rattle.fields.specs.Named.{pick}
-use Rattle.layout.specs.Area.{areasOf, areaSlot}
 use Rattle.layout.specs.Size.{entries, page, block}
 use Rattle.layout.specs.Window.{imageWindow, deviceWindow, l2Slot}
-use Rattle.layout.specs.declared.Area.{Area}
 use Rattle.layout.specs.declared.Layout.{Layout}
 use Rattle.layout.specs.declared.Window.{Window}
-use Rattle.arena.specs.Word.{tableTo, pageTo, blockTo, imageTo, deviceTo, leafFor}
 
 -- words of one table from an index on: the p-th is `word p`, and 0 is no word
 pub record Run : Type 0 where

@@ -11,13 +11,25 @@ use Rattle.accepted_facts.proofs.Guarded.{guarded-facts, arena-guarded-facts}
 use Rattle.accepted_facts.proofs.Windows.{image-within, data-within, super-within, devices-within}
 use Rattle.accepted_facts.specs.Accepted.{Aligned, Nameable, Within, Apart}
 use Rattle.accepted_facts.specs.Guarded.{Guarded}
+use Rattle.areas.specs.Area.{areaHas}
 use Rattle.arena.proofs.At.{l1At, dataAt, at-1, at-3, run-2, run-4, run-5, run-6}
 use Rattle.arena.proofs.Runs.{table-of, index-of, run-inside}
 use Rattle.arena.specs.Encoded.{Run, pageAt, tableOf, wordAt, pageRun, superRun, deviceRun, imageRun, target}
 use Rattle.arena.specs.Word.{tableTo, imageTo, deviceTo}
 use Rattle.decode.specs.Emitted.{Output}
+use Rattle.demand_2.specs.Demand2.{addressesOf, Reaches, Demand2, Demand2Whole, Demand2Encoded}
+use Rattle.demand_2.proofs.Entries.{Entry, page-entry, block-entry, image-entry, device-entry}
+use Rattle.demand_2.proofs.Fetched.{both, allPresent, present-at, fetched}
+use Rattle.demand_2.proofs.Leaves.{BlockLeaf}
+use Rattle.demand_2.proofs.Parts.{Part, part, areaIn, In, granted-none, seen-in}
+use Rattle.demand_2.proofs.Path.{seen-along, whole-path}
+use Rattle.demand_2.proofs.Seen.{Names-table, table-names, Finds, Seen, blank1, walk-seen, manual-seen}
+use Rattle.demand_2.proofs.Slots.{not-here, past-limit}
+use Rattle.demand_2.proofs.Windows.{block-window, page-window}
+use Rattle.descent.specs.Descent.{Words, wordsOf, index}
+use Rattle.descent.specs.Path.{PathAgrees}
+use Rattle.encode_theorems.proofs.Arena.{from-zeros}
 use Rattle.fields.specs.Named.{pick}
-use Rattle.layout.specs.Area.{areaHas}
 use Rattle.layout.specs.Layout.{tableIf, tablesOf}
 use Rattle.layout.specs.Size.{entries, page, block, inputLimit, boardLimit, tableCount, arenaLength}
 use Rattle.layout.specs.Window.{imageWindow, deviceWindow, l1Slot, l2Slot}
@@ -31,20 +43,8 @@ use Rattle.perm.specs.declared.Perm.the-variants.{Rw, Rx}
 use Rattle.reach.specs.declared.Reached.{Reached}
 use Rattle.reach.specs.declared.Reached.the-variants.{Nothing}
 use Rattle.refusal.proofs.All.{all-at, all-map, all-always, pairs-map}
-use Rattle.encode_theorems.proofs.Arena.{from-zeros}
-use Rattle.walk.specs.Descent.{Words, wordsOf, index}
-use Rattle.walk.specs.Path.{PathAgrees}
 use Rattle.walk.specs.Walk.{walkOf}
 use Rattle.window_reach.specs.Granted.{Region, imageRegion, dataRegion, superRegion, deviceRegion, regionsOf, contains, granted}
-use Rattle.demand_2.specs.Demand2.{addressesOf, Reaches, Demand2, Demand2Whole, Demand2Encoded}
-use Rattle.demand_2.proofs.Entries.{Entry, page-entry, block-entry, image-entry, device-entry}
-use Rattle.demand_2.proofs.Fetched.{both, allPresent, present-at, fetched}
-use Rattle.demand_2.proofs.Leaves.{BlockLeaf}
-use Rattle.demand_2.proofs.Parts.{Part, part, areaIn, In, granted-none, seen-in}
-use Rattle.demand_2.proofs.Path.{seen-along, whole-path}
-use Rattle.demand_2.proofs.Seen.{Names-table, table-names, Finds, Seen, blank1, walk-seen, manual-seen}
-use Rattle.demand_2.proofs.Slots.{not-here, past-limit}
-use Rattle.demand_2.proofs.Windows.{block-window, page-window}
 
 -- an image is one block, mapped to itself
 image-span : (i : GuestImage) → imageWindow i .present ≡ true → imageWindow i .span ≡ block

@@ -8,11 +8,11 @@ use native.Mathlib.Omega.{arith}
 use lib.ListN.{length, getD, take}
 use borrow.Author.Tests.{eq-eqb, ne-eqb}
 use Rattle.accepted_facts.specs.Guarded.{Distinct}
+use Rattle.descent.specs.Descent.{Words, fetchFrom}
 use Rattle.layout.specs.Size.{entries}
 use Rattle.layout.specs.declared.Table.{Table}
 use Rattle.refusal.proofs.All.{all-at}
 use Rattle.refusal.specs.All.{AllPairs}
-use Rattle.walk.specs.Descent.{Words, fetchFrom}
 
 pub both : (a b : Bool) → (a && b) ≡ true → (a ≡ true) × (b ≡ true)
 both true b e = (refl, e)

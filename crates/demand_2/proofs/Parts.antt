@@ -3,11 +3,11 @@ use Prim.Native.Nat.{ℕ}
 use mathlib.Core.Bool.{Bool, true, false}
 use mathlib.Core.List.{List, [], _∷_, map}
 use mathlib.Core.Path.{_≡_, refl, sym, ap, subst, _∙_}
+use Rattle.areas.specs.Area.{area, areaHas}
+use Rattle.areas.specs.declared.Area.{Area}
 use Rattle.arena.proofs.At.{lastAt}
 use Rattle.arena.specs.Word.{tableTo}
 use Rattle.fields.specs.Named.{pick}
-use Rattle.layout.specs.Area.{area, areaHas}
-use Rattle.layout.specs.declared.Area.{Area}
 use Rattle.reach.specs.declared.Reached.{Reached}
 use Rattle.reach.specs.declared.Reached.the-variants.{Nothing}
 use Rattle.refusal.proofs.All.{all-map}

@@ -6,12 +6,12 @@ use mathlib.Core.Path.{_≡_, refl, ap, _∙_}
 use native.Mathlib.Omega.{arith}
 use lib.Dec.{eqb}
 use lib.ListN.{length, getD}
+use Rattle.demand_2.proofs.Seen.{Names-table, Finds, Seen, blank1, blank2, blank3, block2, page3}
+use Rattle.descent.specs.Descent.{Words, index, fetchFrom, nextTable}
+use Rattle.descent.specs.Path.{wordRead, AgreesFrom}
 use Rattle.fields.specs.Named.{pick}
 use Rattle.layout.specs.Size.{entries}
 use Rattle.reach.specs.declared.Reached.{Reached}
-use Rattle.walk.specs.Descent.{Words, index, fetchFrom, nextTable}
-use Rattle.walk.specs.Path.{wordRead, AgreesFrom}
-use Rattle.demand_2.proofs.Seen.{Names-table, Finds, Seen, blank1, blank2, blank3, block2, page3}
 
 module _ (words others : Words) (named j : ℕ) where
   -- words that are read alike are so whatever stands outside

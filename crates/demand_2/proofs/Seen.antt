@@ -10,20 +10,20 @@ use Rattle.decode.proofs.Emitted.{emitted-decodes}
 use Rattle.decode.specs.Decoded.{decodedTable}
 use Rattle.decode.specs.Emitted.{Output}
 use Rattle.decode.specs.declared.DecodedTable.the-variants.{At as Names}
+use Rattle.demand_2.proofs.Leaves.{PageLeaf, BlockLeaf}
 use Rattle.desc.specs.Descriptor.{descriptorType, blockType, tableType, pageType, pageAddress}
 use Rattle.desc.specs.Words.{tableWord}
 use Rattle.desc.specs.declared.AccessXn.{AccessXn}
+use Rattle.descent.specs.Descent.{Words, index, fetch, endsAt, leads, descend}
+use Rattle.descent.specs.declared.Stop.the-variants.{Leaf}
+use Rattle.descent.specs.declared.Stop.{Stop}
 use Rattle.fields.specs.Bits.{bits}
 use Rattle.layout.specs.Size.{page, block, inputLimit}
 use Rattle.manual.specs.Translation.{Machine, Access, level1, level2, level3, translation, allowed}
 use Rattle.reach.specs.declared.Reached.{Reached}
 use Rattle.reach.specs.declared.Reached.the-variants.{Nothing}
-use Rattle.walk.specs.Descent.{Words, index, fetch, endsAt, leads, descend}
 use Rattle.walk.specs.Walk.{leafReach, reading, walkOf}
-use Rattle.walk.specs.declared.Stop.the-variants.{Leaf}
-use Rattle.walk.specs.declared.Stop.{Stop}
 use Rattle.window_reach.specs.Granted.{reachAt}
-use Rattle.demand_2.proofs.Leaves.{PageLeaf, BlockLeaf}
 
 -- an emitted table word names its table
 pub record Names-table (d t : ℕ) : Type 0 where

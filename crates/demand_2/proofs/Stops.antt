@@ -1,9 +1,9 @@
 -- The stops of S, by computing.
 use mathlib.Core.Path.{refl}
 use Rattle.arena.specs.Encoded.{encoded, stored, wordAt, upperRuns, leafRuns}
-use Rattle.layout.specs.Layout.{layoutOf}
-use Rattle.walk.specs.Descent.{fetchFrom, descend}
 use Rattle.demand_2.specs.Stops.{StopsOfS}
+use Rattle.descent.specs.Descent.{fetchFrom, descend}
+use Rattle.layout.specs.Layout.{layoutOf}
 
 pub stops-of-S : StopsOfS
 unfolding layoutOf encoded stored wordAt upperRuns leafRuns fetchFrom descend

@@ -4,17 +4,17 @@ use mathlib.Core.Path.{_≡_, _∙_, refl}
 use lib.ListN.{replicate}
 use Rattle.accepted_facts.proofs.Guarded.{arena-guarded-facts}
 use Rattle.arena.specs.Encoded.{target}
+use Rattle.demand_2.specs.Demand2.{addressesOf}
+use Rattle.demand_2.specs.Tabled.{S, WalksOfS, Tabled}
+use Rattle.demand_2.proofs.Demand2.{reaches-whole}
+use Rattle.descent.specs.Descent.{Words}
 use Rattle.layout.specs.Layout.{layoutOf}
 use Rattle.layout.specs.Size.{boardLimit, arenaLength}
 use Rattle.leafmap_theorems.proofs.Examples as Leaves
 use Rattle.rows.proofs.Examples as Rows
 use Rattle.rows.specs.Examples.{baseS, supS}
-use Rattle.walk.specs.Descent.{Words}
 use Rattle.walk.specs.Walk.{walkOf}
 use Rattle.window_reach.specs.Granted.{grantedBy, granted}
-use Rattle.demand_2.specs.Demand2.{addressesOf}
-use Rattle.demand_2.specs.Tabled.{S, WalksOfS, Tabled}
-use Rattle.demand_2.proofs.Demand2.{reaches-whole}
 
 module _ (words : Words) (all : (i : ℕ) → i < arenaLength → words i ≡ target S baseS supS i) where
   walked : (x : ℕ) → walkOf (addressesOf S) (λ left. words) x ≡ granted S baseS supS x

@@ -10,18 +10,18 @@ use borrow.Author.Tests.{leb-true, leb-false, ltb-true, ltb-false}
 use Rattle.accepted_facts.specs.Accepted.{Within}
 use Rattle.arena.proofs.Runs.{run-before, run-past, run-inside}
 use Rattle.arena.specs.Encoded.{Run, wordAt}
-use Rattle.fields.specs.Named.{pick}
-use Rattle.layout.specs.Size.{entries, page, block, inputLimit}
-use Rattle.layout.specs.Window.{l1Slot, l2Slot, slot}
-use Rattle.reach.specs.declared.Reached.the-variants.{Nothing}
-use Rattle.walk.specs.Descent.{Words, index}
-use Rattle.window_reach.proofs.Contains.{Inside, inside, contained}
-use Rattle.window_reach.specs.Granted.{Region, contains, reachAt, byEntry, grantedIn}
 use Rattle.demand_2.proofs.Entries.{Entry, unmapped, mapped}
 use Rattle.demand_2.proofs.Leaves.{PageLeaf, BlockLeaf}
 use Rattle.demand_2.proofs.Parts.{In}
 use Rattle.demand_2.proofs.Seen.{Names-table, Finds, Seen, blank2, blank3, block2, page3}
 use Rattle.demand_2.proofs.Slots.{block-from, block-back, block-offset}
+use Rattle.descent.specs.Descent.{Words, index}
+use Rattle.fields.specs.Named.{pick}
+use Rattle.layout.specs.Size.{entries, page, block, inputLimit}
+use Rattle.layout.specs.Window.{l1Slot, l2Slot, slot}
+use Rattle.reach.specs.declared.Reached.the-variants.{Nothing}
+use Rattle.window_reach.proofs.Contains.{Inside, inside, contained}
+use Rattle.window_reach.specs.Granted.{Region, contains, reachAt, byEntry, grantedIn}
 
 -- a window of one block, by pages
 page-block : (first x span : ℕ) → l2Slot x ≡ l2Slot first + (x - first) / block → x - first < span → span ≡ block → l2Slot first ≡ l2Slot x

@@ -5,17 +5,17 @@ use mathlib.Core.Bool.{true, false}
 use mathlib.Core.Path.{_≡_}
 use lib.Dec.{eqb}
 use Rattle.arena.specs.Encoded.{target}
+use Rattle.demand_2.specs.Demand2.{addressesOf}
+use Rattle.demand_2.specs.Tabled.{S, reach}
+use Rattle.descent.specs.Descent.{Words}
 use Rattle.fields.specs.Named.{pick}
 use Rattle.layout.specs.Size.{entries}
 use Rattle.perm.specs.declared.Perm.the-variants.{Rw}
 use Rattle.reach.specs.declared.Reached.{Reached}
 use Rattle.reach.specs.declared.Reached.the-variants.{Nothing}
 use Rattle.rows.specs.Examples.{baseS, supS}
-use Rattle.walk.specs.Descent.{Words}
 use Rattle.walk.specs.Walk.{walkOf}
 use Rattle.window_reach.specs.Granted.{granted}
-use Rattle.demand_2.specs.Demand2.{addressesOf}
-use Rattle.demand_2.specs.Tabled.{S, reach}
 
 abbrev pub changed : ℕ → ℕ → Words
 changed k d i = pick (eqb i k) d (target S baseS supS i)

@@ -5,6 +5,8 @@ use mathlib.Core.List.{List, map}
 use mathlib.Core.Path.{_≡_}
 use lib.ListN.{replicate}
 use Rattle.arena.specs.Encoded.{target}
+use Rattle.descent.specs.Descent.{Words, wordsOf}
+use Rattle.descent.specs.Path.{PathAgrees}
 use Rattle.encode.specs.Encoding.{Encoding}
 use Rattle.layout.specs.Layout.{tablesOf}
 use Rattle.layout.specs.Size.{boardLimit, arenaLength}
@@ -12,8 +14,6 @@ use Rattle.layout.specs.declared.Layout.{Layout}
 use Rattle.manual.specs.Translation.{Machine, Access, translation, allowed}
 use Rattle.refusal.specs.Table.{accepted, first}
 use Rattle.rows.specs.Rows.{guardRows}
-use Rattle.walk.specs.Descent.{Words, wordsOf}
-use Rattle.walk.specs.Path.{PathAgrees}
 use Rattle.walk.specs.Walk.{walkOf}
 use Rattle.window_reach.specs.Granted.{granted}
 

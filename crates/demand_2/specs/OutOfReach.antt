@@ -4,6 +4,9 @@ use mathlib.Core.Bool.{true, false}
 use mathlib.Core.List.{List, [], _∷_}
 use mathlib.Core.Path.{_≡_}
 use Rattle.arena.specs.Encoded.{target}
+use Rattle.demand_2.specs.Demand2.{addressesOf}
+use Rattle.demand_2.specs.Tabled.{reach}
+use Rattle.descent.specs.Descent.{Words}
 use Rattle.exposed.specs.Exposed.{liesIn, exposure}
 use Rattle.exposed.specs.declared.Exposure.the-variants.{Table as Lies}
 use Rattle.layout.specs.Layout.{layoutOf, tablesOf}
@@ -18,11 +21,8 @@ use Rattle.refusal.specs.All.{All}
 use Rattle.refusal.specs.Table.{accepted, first}
 use Rattle.rows.specs.Examples.{sceneS, line, guarded}
 use Rattle.rows.specs.Rows.{guardRows}
-use Rattle.walk.specs.Descent.{Words}
 use Rattle.walk.specs.Walk.{walkOf}
 use Rattle.window_reach.specs.Granted.{granted}
-use Rattle.demand_2.specs.Demand2.{addressesOf}
-use Rattle.demand_2.specs.Tabled.{reach}
 
 -- a byte of one of its 512 words
 abbrev pub ByteOf : Table → ℕ → Type 0

@@ -2,12 +2,12 @@
 use Prim.Native.Nat.{ℕ, _^_}
 use mathlib.Core.Path.{_≡_}
 use Rattle.arena.specs.Encoded.{target}
-use Rattle.rows.specs.Examples.{baseS, supS}
-use Rattle.walk.specs.Walk.{stopOf}
-use Rattle.walk.specs.declared.Stop.{Stop}
-use Rattle.walk.specs.declared.Stop.the-variants.{Leaf, Stopped}
 use Rattle.demand_2.specs.Demand2.{addressesOf}
 use Rattle.demand_2.specs.Tabled.{S}
+use Rattle.descent.specs.Descent.{stopOf}
+use Rattle.descent.specs.declared.Stop.{Stop}
+use Rattle.descent.specs.declared.Stop.the-variants.{Leaf, Stopped}
+use Rattle.rows.specs.Examples.{baseS, supS}
 
 -- over the words that encoding S leaves from zeros
 abbrev pub stopS : ℕ → Stop

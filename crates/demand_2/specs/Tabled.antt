@@ -3,6 +3,8 @@ use Prim.Native.Nat.{ℕ, _<_}
 use mathlib.Core.Bool.{Bool, true, false}
 use mathlib.Core.Path.{_≡_}
 use Rattle.arena.specs.Encoded.{target}
+use Rattle.demand_2.specs.Demand2.{addressesOf}
+use Rattle.descent.specs.Descent.{Words}
 use Rattle.layout.specs.Layout.{layoutOf}
 use Rattle.layout.specs.Size.{arenaLength}
 use Rattle.layout.specs.declared.Layout.{Layout}
@@ -12,9 +14,7 @@ use Rattle.perm.specs.declared.Perm.{Perm}
 use Rattle.reach.specs.declared.Reached.{Reached}
 use Rattle.reach.specs.declared.Reached.the-variants.{At, Nothing}
 use Rattle.rows.specs.Examples.{sceneS, baseS, supS}
-use Rattle.walk.specs.Descent.{Words}
 use Rattle.walk.specs.Walk.{walkOf}
-use Rattle.demand_2.specs.Demand2.{addressesOf}
 
 abbrev pub S : Layout
 S = layoutOf sceneS

@@ -10,10 +10,6 @@ use lib.Dec.{ltb}
 use lib.ListN.{length, getD, List·getD-eq-default}
 use lib.Seq.{ext-getD}
 use borrow.Author.Tests.{ltb-true, ltb-false}
-use Rattle.layout.specs.Size.{arenaLength}
-use Rattle.manual.proofs.OneDescent.{Either, Torn}
-use Rattle.update.specs.Step.{halfway, stepCount}
-use Rattle.walk.specs.Descent.{Words, wordsOf}
 use Rattle.demand_3.specs.Cuts.{Step, Cut, cutAfter, In, begun, to-begin}
 use Rattle.demand_3.specs.Demand3.{Premises, Concludes, Demand3}
 use Rattle.demand_3.specs.Readers.{EachRead, Reader, theWalk, theManual}
@@ -24,6 +20,10 @@ use Rattle.demand_3.proofs.Granting.{base-entries, sup-entries, same-ta
 use Rattle.demand_3.proofs.Lawful.{Lawful, walk-lawful, manual-lawful}
 use Rattle.demand_3.proofs.State.{Begun, Known, known-at}
 use Rattle.demand_3.proofs.Torn.{along, towards}
+use Rattle.descent.specs.Descent.{Words, wordsOf}
+use Rattle.layout.specs.Size.{arenaLength}
+use Rattle.manual.proofs.OneDescent.{Either, Torn}
+use Rattle.update.specs.Step.{halfway, stepCount}
 
 -- past the arena there are zeros
 past : (words : List ℕ) (i : ℕ) → length words ≡ arenaLength → arenaLength ≤ i → getD words i 0 ≡ 0

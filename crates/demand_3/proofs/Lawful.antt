@@ -4,17 +4,17 @@ use mathlib.Core.List.{List, _∷_}
 use mathlib.Core.Path.{_≡_}
 use Rattle.accepted_facts.specs.Guarded.{Guarded}
 use Rattle.arena.specs.Encoded.{target}
+use Rattle.demand_2.proofs.Demand2.{reaches-whole}
+use Rattle.demand_2.specs.Demand2.{addressesOf}
+use Rattle.demand_3.specs.Readers.{EachRead, Reader, theWalk, theManual}
+use Rattle.demand_3.proofs.Torn.{reads-torn, reads-same, reads-zeros}
+use Rattle.descent.specs.Descent.{Words}
 use Rattle.layout.specs.Size.{boardLimit, arenaLength}
 use Rattle.layout.specs.declared.Layout.{Layout}
 use Rattle.manual.proofs.OneDescent.{Either, Torn, walkDescent, walk-descends, manualDescent, manual-descends}
 use Rattle.manual.specs.Translation.{Machine, Access}
-use Rattle.walk.specs.Descent.{Words}
 use Rattle.walk.specs.Walk.{walkOf}
-use Rattle.demand_2.proofs.Demand2.{reaches-whole}
-use Rattle.demand_2.specs.Demand2.{addressesOf}
 use Rattle.window_reach.specs.Granted.{granted}
-use Rattle.demand_3.specs.Readers.{EachRead, Reader, theWalk, theManual}
-use Rattle.demand_3.proofs.Torn.{reads-torn, reads-same, reads-zeros}
 
 pub record Lawful {A : Type 0} (r : Reader A) : Type 0 where
   pub torn :

@@ -3,9 +3,9 @@ use Prim.Native.Nat.{ℕ}
 use mathlib.Core.List.{List, _∷_}
 use mathlib.Core.Logic.{inl, inr}
 use mathlib.Core.Path.{_≡_, sym, _∙_}
-use Rattle.manual.proofs.OneDescent.{Descent, answer, Either, Torn, torn, same, zeros}
-use Rattle.walk.specs.Descent.{Words}
 use Rattle.demand_3.specs.Readers.{EachRead}
+use Rattle.descent.specs.Descent.{Words}
+use Rattle.manual.proofs.OneDescent.{Descent, answer, Either, Torn, torn, same, zeros}
 
 pub along : {A : Type 0} {a b this that : A} → a ≡ b → Either b this that → Either a this that
 along e (inl p) = inl (e ∙ p)

@@ -6,8 +6,17 @@ use mathlib.Core.Path.{_≡_, refl, sym, _∙_}
 use native.Mathlib.Omega.{arith}
 use lib.ListN.{length, replicate}
 use Rattle.accepted_facts.proofs.Guarded.{maps-let-by}
+use Rattle.conflict.specs.Conflict.{row17}
+use Rattle.demand_2.specs.Demand2.{addressesOf}
+use Rattle.demand_2.specs.Tabled.{S, reach}
+use Rattle.demand_3.specs.Completing.{fullUpdate, AcceptedSource, Completes}
+use Rattle.demand_3.specs.UpdateS.{sourceS, walkAfter, AnswersS, UpdateS}
+use Rattle.demand_3.specs.Sources.{mapsOf, grantedFrom, FilledFrom}
+use Rattle.demand_3.proofs.Completing.{updates-complete}
+use Rattle.demand_3.proofs.Demand3.{demand-3}
+use Rattle.demand_3.proofs.Granting.{base-entries, sup-entries, same-granted}
 use Rattle.edge.specs.Edge.{owns, counts}
-use Rattle.filling.specs.Filling.{filling, putIn, placed, onward, placedAll, row17, conflicts, started, filled}
+use Rattle.filling.specs.Filling.{filling, putIn, placed, onward, placedAll, conflicts, started, filled}
 use Rattle.layout.specs.Layout.{layoutOf}
 use Rattle.layout.specs.Size.{boardLimit, arenaLength}
 use Rattle.perm.specs.declared.Perm.the-variants.{Rw}
@@ -18,15 +27,7 @@ use Rattle.rows.specs.Examples.{baseS, supS}
 use Rattle.rows.specs.Rows.{row1, row2, row3, row4, row5, row6, row7, row8, row9, row10, row13, row14, lengthRows, mapRows, pairRows}
 use Rattle.rows.specs.Rows.{windowRows, refusalsAt, guardRows, arenaGuardRows}
 use Rattle.update.specs.Step.{halfway, row26, stepRows}
-use Rattle.demand_2.specs.Demand2.{addressesOf}
-use Rattle.demand_2.specs.Tabled.{S, reach}
 use Rattle.window_reach.specs.Granted.{grantedBy}
-use Rattle.demand_3.specs.Completing.{fullUpdate, AcceptedSource, Completes}
-use Rattle.demand_3.specs.UpdateS.{sourceS, walkAfter, AnswersS, UpdateS}
-use Rattle.demand_3.specs.Sources.{mapsOf, grantedFrom, FilledFrom}
-use Rattle.demand_3.proofs.Completing.{updates-complete}
-use Rattle.demand_3.proofs.Demand3.{demand-3}
-use Rattle.demand_3.proofs.Granting.{base-entries, sup-entries, same-granted}
 
 fills : filled (sourceS .frames) 3 (sourceS .edges) (9 ∷ 9 ∷ []) (9 ∷ 9 ∷ 9 ∷ []) ≡ filling baseS supS accepted
 unfolding filled started onward placedAll placed counts owns putIn conflicts row17 first eachFrom lengthRows row2 flatMap

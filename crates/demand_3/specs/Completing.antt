@@ -3,17 +3,17 @@ use Prim.Native.Nat.{ℕ, zero, suc, _+_, _≤_}
 use mathlib.Core.List.{List, [], _∷_, _++_}
 use mathlib.Core.Path.{_≡_}
 use lib.ListN.{length}
+use Rattle.demand_2.specs.Demand2.{addressesOf}
+use Rattle.demand_3.specs.Cuts.{full, Step, answered, cutAfter, EachStep, In}
+use Rattle.demand_3.specs.Demand3.{Premises}
+use Rattle.demand_3.specs.Sources.{Source, grantedFrom, FilledFrom}
+use Rattle.descent.specs.Descent.{wordsOf}
 use Rattle.layout.specs.Size.{boardLimit, arenaLength}
 use Rattle.manual.specs.Translation.{Machine, Access, translation, allowed}
 use Rattle.refusal.specs.Table.{accepted, first}
 use Rattle.rows.specs.Rows.{guardRows}
 use Rattle.update.specs.Step.{stepCount}
-use Rattle.walk.specs.Descent.{wordsOf}
 use Rattle.walk.specs.Walk.{walkOf}
-use Rattle.demand_2.specs.Demand2.{addressesOf}
-use Rattle.demand_3.specs.Cuts.{full, Step, answered, cutAfter, EachStep, In}
-use Rattle.demand_3.specs.Demand3.{Premises}
-use Rattle.demand_3.specs.Sources.{Source, grantedFrom, FilledFrom}
 
 -- steps n and on, so many, to one source with two maps
 unfoldable pub stepsFrom : Source → List ℕ → List ℕ → ℕ → ℕ → List Step

@@ -7,14 +7,14 @@ use mathlib.Core.List.{List}
 use mathlib.Core.Logic.{_⊎_}
 use mathlib.Core.Option.{some}
 use mathlib.Core.Path.{_≡_}
-use Rattle.manual.specs.Translation.{Machine, Access}
-use Rattle.refusal.specs.Table.{accepted}
-use Rattle.update.specs.Step.{halfway, stepCount}
-use Rattle.walk.specs.Descent.{wordsOf}
 use Rattle.demand_2.specs.Demand2.{addressesOf}
 use Rattle.demand_3.specs.Cuts.{full, Step, Cut, start, answered, cutAfter, EachStep, In}
 use Rattle.demand_3.specs.Readers.{EachRead, Reader, theWalk, theManual}
 use Rattle.demand_3.specs.Sources.{Source, grantedFrom, FilledFrom}
+use Rattle.descent.specs.Descent.{wordsOf}
+use Rattle.manual.specs.Translation.{Machine, Access}
+use Rattle.refusal.specs.Table.{accepted}
+use Rattle.update.specs.Step.{halfway, stepCount}
 
 -- number 0, which begins an update, or the number after the last that stored, in an update with the same source
 pub data InOrder (c : Cut) (s : Step) : Type 0 where

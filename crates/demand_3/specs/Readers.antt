@@ -1,10 +1,10 @@
 -- Who reads the tables, each read seeing words of its own: the walk, and the manual's translation.
 use Prim.Native.Nat.{ℕ, _<_}
 use mathlib.Core.List.{List}
+use Rattle.descent.specs.Descent.{Words}
 use Rattle.manual.specs.Translation.{Machine, Access, Translated, fault, translation, allowed}
 use Rattle.reach.specs.declared.Reached.{Reached}
 use Rattle.reach.specs.declared.Reached.the-variants.{Nothing}
-use Rattle.walk.specs.Descent.{Words}
 use Rattle.walk.specs.Walk.{walkOf}
 
 -- the reads of a walk, by the levels left below them: 2, 1 and 0

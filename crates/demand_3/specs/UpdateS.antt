@@ -4,6 +4,12 @@ use mathlib.Core.Bool.{true}
 use mathlib.Core.List.{List, [], _∷_}
 use mathlib.Core.Path.{_≡_}
 use lib.ListN.{length, replicate}
+use Rattle.demand_2.specs.Demand2.{addressesOf}
+use Rattle.demand_2.specs.Tabled.{S, reach}
+use Rattle.demand_3.specs.Completing.{fullUpdate, Completes}
+use Rattle.demand_3.specs.Cuts.{cutAfter}
+use Rattle.demand_3.specs.Sources.{Source}
+use Rattle.descent.specs.Descent.{wordsOf}
 use Rattle.edge.specs.Edge.{edgesOf}
 use Rattle.filling.specs.Filling.{filling, filled}
 use Rattle.layout.specs.Size.{arenaLength}
@@ -14,13 +20,7 @@ use Rattle.reach.specs.declared.Reached.the-variants.{Nothing}
 use Rattle.refusal.specs.Table.{row, Outcome, accepted, refused, first}
 use Rattle.rows.specs.Examples.{baseS, supS}
 use Rattle.update.specs.Step.{halfway, stepCount, stepRows}
-use Rattle.walk.specs.Descent.{wordsOf}
 use Rattle.walk.specs.Walk.{walkOf}
-use Rattle.demand_2.specs.Demand2.{addressesOf}
-use Rattle.demand_2.specs.Tabled.{S, reach}
-use Rattle.demand_3.specs.Completing.{fullUpdate, Completes}
-use Rattle.demand_3.specs.Cuts.{cutAfter}
-use Rattle.demand_3.specs.Sources.{Source}
 
 -- domain 3 owns frame 0, a page table L1, and frame 1, an L2: base 1 Rw, super 2 Rx
 abbrev pub sourceS : Source

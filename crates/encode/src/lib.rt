@@ -1,5 +1,5 @@
 // The words that the machine walks (hv-s2's arm64.rs, `encode`).
-use layout::Area;
+use areas::Area;
 use layout::Layout;
 use layout::Window;
 use refusal::Verdict;
@@ -64,7 +64,7 @@ fn encode_upper(arena: &mut [u64], l: Layout)
     requires { ⌜ length (now arena) ≡ arenaLength ⌝ }
     ensures { λ _. ⌜ Over (stored (upperRuns l)) (now (arena .entry)) (now (arena .exit)) ⌝ }
 {
-    put_areas(arena, l.areas());
+    put_areas(arena, areas::areas(l));
     put_image(arena, l);
     let index = Layout::l2_index(l.data_ipa_base) as usize;
     put(arena, 3, index, arena::table_word(l.l3_data_pa));

@@ -17,9 +17,9 @@ pub fn check_exact(
 ) -> Verdict
     ensures { λ r. ⌜ outcomeOf r ≡ first (exactRows (now (frames .entry)) dom span (now (edges .entry)) (now (leaves .entry))) ⌝ }
 {
-    let mut wanted = exact::unmapped();
+    let mut wanted = expected::unmapped();
     for i in 0..edges.len() {
-        exact::note(&mut wanted, edges[i], dom, span, frames);
+        expected::note(&mut wanted, edges[i], dom, span, frames);
     }
     exact::compare(dom, leaves, span, wanted)
 }

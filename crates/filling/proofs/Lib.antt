@@ -1,4 +1,3 @@
-pub mod Both
 pub mod Filled
 pub mod Lengths
 pub mod Onward

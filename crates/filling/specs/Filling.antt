@@ -1,19 +1,18 @@
 -- Filling, by document 01 ("Leaf maps"): what edges leave in both maps, and rows 15 to 17 of its table.
 use Prim.Native.Nat.{ℕ}
-use mathlib.Core.Bool.{_&&_}
 use mathlib.Core.List.{List, [], _∷_, foldl}
 use lib.Dec.{ltb}
-use lib.ListN.{length, getD, set, replicate}
+use lib.ListN.{length, set, replicate}
+use Rattle.conflict.specs.Conflict.{row17}
 use Rattle.edge.specs.Edge.{entryOf, counts}
 use Rattle.edge.specs.declared.Edge.{Edge}
 use Rattle.fields.specs.Named.{pick}
-use Rattle.fields.specs.Numbers.{nonzero}
 use Rattle.p2m.specs.Frame.{kindAt, spanOfKind}
 use Rattle.p2m.specs.declared.Span.{Span}
 use Rattle.p2m.specs.declared.Span.the-variants.{Base, Super}
 use Rattle.p2m.specs.declared.TableSpan.{TableSpan}
 use Rattle.p2m.specs.declared.TableSpan.the-variants.{Leaves, Unsupported}
-use Rattle.refusal.specs.Table.{Row, row, Outcome, accepted, refused, first, refuseIf, eachFrom}
+use Rattle.refusal.specs.Table.{Row, row, Outcome, accepted, refused, first, eachFrom}
 use Rattle.rows.specs.Rows.{lengthRows}
 
 -- both maps, and whether a row has refused
@@ -79,10 +78,6 @@ placedNext frames dom f e = onward (λ h. placed frames dom h e) f
 -- the edges in order, up to the first that is refused
 unfoldable pub placedAll : List (List ℕ) → ℕ → List Edge → Filling → Filling
 placedAll frames dom edges f = foldl (placedNext frames dom) f edges
-
--- row 17: a frame in both maps
-unfoldable pub row17 : List ℕ → ℕ → ℕ → List Row
-row17 sup m entry = refuseIf (nonzero entry && nonzero (getD sup m 0)) 17 (m ∷ [])
 
 -- 17 is tested last, smallest first
 unfoldable pub conflicts : Filling → Filling

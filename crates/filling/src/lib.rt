@@ -4,11 +4,9 @@ use p2m::Span;
 use p2m::TableSpan;
 use refusal::Refusal;
 use refusal::Verdict;
-ghost use Prim.Native.Nat.{ℕ, min};
-ghost use mathlib.Core.List.{[]};
 ghost use mathlib.Core.Path.{_≡_};
-ghost use lib.ListN.{length, getD, replicate};
-ghost use Rattle.filling.specs.Filling.{filling, put, row16, putIn, placed, placedNext, onward, row17, conflicts, started};
+ghost use lib.ListN.{length, replicate};
+ghost use Rattle.filling.specs.Filling.{filling, put, row16, putIn, placed, placedNext, onward, conflicts, started};
 ghost use Rattle.filling.specs.Progress.{fillingAt, unlessPast};
 ghost use Rattle.refusal.specs.Outcome.{outcomeOf};
 ghost use Rattle.refusal.specs.Table.{accepted, refused, first, eachFrom};
@@ -59,7 +57,7 @@ pub fn finish(so_far: Progress, base: &[u8], sup: &[u8]) -> Verdict
         ≡ onward conflicts (fillingAt (now (base .entry)) (now (sup .entry)) «so_far») ⌝ }
 {
     match so_far {
-        Progress::Going => no_conflict(base, sup),
+        Progress::Going => conflict::no_conflict(base, sup),
         Progress::TooLong => Verdict::Refused(Refusal::MapLength),
         Progress::Unsupported(parent) => Verdict::Refused(Refusal::UnsupportedSpan {
             parent: parent as u64,
@@ -125,54 +123,4 @@ fn clear(map: &mut [u8])
     for i in 0..map.len() {
         map[i] = 0;
     }
-}
-
-// Row 17: a frame has one span, or it would need two places in memory. The pass that finds no frame has no branch to take, and most
-// maps need no other.
-fn no_conflict(base: &[u8], sup: &[u8]) -> Verdict
-    ensures { λ r. ⌜ outcomeOf r ≡ first (eachFrom (row17 (now (sup .entry))) 0 (now (base .entry))) ⌝ }
-{
-    if overlap(base, sup) == 0 {
-        return Verdict::Accepted;
-    }
-    for m in 0..base.len() {
-        if base[m] != 0 {
-            if lent_rows::entry_at(sup, m) != 0 {
-                return Verdict::Refused(Refusal::SpanConflict { mfn: m as u64 });
-            }
-        }
-    }
-    Verdict::Accepted
-}
-
-// Zero only if no frame has an entry in both maps.
-fn overlap(base: &[u8], sup: &[u8]) -> u8
-    ensures { λ r. ⌜ (r ≡ 0 → (m : ℕ) → row17 (now (sup .entry)) m (getD (now (base .entry)) m 0) ≡ []) ⌝ }
-{
-    let mut most = 0;
-    for m in 0..shared_len(base, sup) {
-        let both = lesser(base[m], sup[m]);
-        if most < both {
-            most = both;
-        }
-    }
-    most
-}
-
-fn shared_len(base: &[u8], sup: &[u8]) -> usize
-    ensures { λ r. ⌜ r ≡ min (length (now (base .entry))) (length (now (sup .entry))) ⌝ }
-{
-    if base.len() < sup.len() {
-        return base.len();
-    }
-    sup.len()
-}
-
-fn lesser(a: u8, b: u8) -> u8
-    ensures { λ r. ⌜ r ≡ min a b ⌝ }
-{
-    if a < b {
-        return a;
-    }
-    b
 }

@@ -4,12 +4,12 @@ use mathlib.Core.Bool.{Bool, _&&_}
 use mathlib.Core.List.{List, [], _∷_}
 use lib.Dec.{eqb}
 use lib.ListN.{getD}
+use Rattle.descent.specs.Descent.{wordsOf}
 use Rattle.fields.specs.Named.{pick}
 use Rattle.fields.specs.Numbers.{nonzero}
-use Rattle.manual.specs.Translation.{Access, reads, writes, executes, el0, el1, Machine, Translated, byte, fault, translation}
-use Rattle.walk.specs.Descent.{wordsOf}
 use Rattle.judge_translation.specs.declared.Translated.{Translated as Told}
 use Rattle.judge_translation.specs.declared.Translated.the-variants.{Byte, Fault}
+use Rattle.manual.specs.Translation.{Access, reads, writes, executes, el0, el1, Machine, Translated, byte, fault, translation}
 
 -- a place is three numbers: the address named, the index, and the word that stands there
 abbrev pub isAt : ℕ → ℕ → List ℕ → Bool

@@ -5,10 +5,10 @@ ghost use Prim.Native.Nat.{_<_};
 ghost use mathlib.Core.List.{_∷_};
 ghost use mathlib.Core.Path.{_≡_};
 ghost use lib.ListN.{length};
+ghost use Rattle.descent.specs.Descent.{wordsOf, fetch};
+ghost use Rattle.judge_translation.specs.Answer.{isAt, elsewhereOf, machineOf, accessNumbered, translatedOf, translationAnswer};
 ghost use Rattle.layout.specs.Size.{entries, tableCount};
 ghost use Rattle.manual.specs.Translation.{permits, leaf, level1, level2, level3, translation};
-ghost use Rattle.walk.specs.Descent.{wordsOf, fetch};
-ghost use Rattle.judge_translation.specs.Answer.{isAt, elsewhereOf, machineOf, accessNumbered, translatedOf, translationAnswer};
 
 // What an access gives: a byte of the output, or a fault.
 pub enum Translated {
@@ -179,7 +179,7 @@ fn lookup(arena: &[u64], tables: &[u64], places: &[[u64; 3]], named: u64, index:
 {
     for t in 0..Layout::TABLES {
         if tables[t] == named {
-            return verify_word::word_at(arena, t * Layout::ENTRIES + index);
+            return verify_read::word_at(arena, t * Layout::ENTRIES + index);
         }
     }
     elsewhere(places, named, index as u64)

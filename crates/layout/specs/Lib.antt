@@ -1,4 +1,3 @@
-pub mod Area
 pub mod Check
 pub mod Layout
 pub mod Size

@@ -1,9 +1,8 @@
 // Where the tables stand and what they map (hv-s2's arm64.rs).
 ghost use Prim.Native.Nat.{_<_};
 ghost use mathlib.Core.Path.{_≡_};
-ghost use Rattle.layout.specs.Area.{areasOf, liveAreasOf, areaSlot, areaHas};
 ghost use Rattle.layout.specs.Check.{check, checksOf};
-ghost use Rattle.layout.specs.Layout.{layoutOf, imageOf, tablesOf};
+ghost use Rattle.layout.specs.Layout.{imageOf, tablesOf};
 ghost use Rattle.layout.specs.Size.{firstWord};
 ghost use Rattle.layout.specs.Window.{imageWindow, dataWindow, superCounted, deviceWindow, devicesOf, l1Slot, l2Slot, slot};
 
@@ -47,13 +46,6 @@ pub struct Window {
     pub ipa: u64,
     pub pa: u64,
     pub span: u64,
-}
-
-// What has a word in table 1, if it is present: its first address has the slot, and the word names its table.
-pub struct Area {
-    pub present: bool,
-    pub ipa: u64,
-    pub table: u64,
 }
 
 // The super window, if 64 bits hold its length.
@@ -109,31 +101,6 @@ impl Layout {
     // The fields, and whether there is an image.
     pub const NUMBERS: usize = Self::FIELDS as usize + 1;
 
-    // The layout of board code's numbers: the fields in their order, with whether there is an image just before the image.
-    pub fn of(x: &[u64; Self::NUMBERS]) -> Self
-        ensures { λ r. ⌜ r ≡ layoutOf (now (x .entry)) ⌝ }
-    {
-        let guest_image_pa = GuestImage::of(x[6], x[7]);
-        Self {
-            l1_pa: x[0],
-            l2_code_pa: x[1],
-            l2_data_pa: x[2],
-            l3_data_pa: x[3],
-            l2_sup_pa: x[4],
-            l2_dev_pa: x[5],
-            guest_image_pa,
-            data_ipa_base: x[8],
-            data_pa_base: x[9],
-            frame_size: x[10],
-            sup_ipa_base: x[11],
-            sup_pa_base: x[12],
-            device_base: x[13],
-            device_len: x[14],
-            sup_wx_exempt: x[15] != 0,
-            sup_frames: x[16],
-        }
-    }
-
     pub fn tables(self) -> [Table; Self::TABLES]
         ensures { λ r. ⌜ r ≡ tablesOf self ⌝ }
     {
@@ -169,45 +136,6 @@ impl Layout {
                 pa: self.l2_dev_pa,
             },
         ]
-    }
-
-    // Image, data, super, device.
-    pub fn areas(self) -> [Area; Self::WINDOWS]
-        ensures { λ r. ⌜ r ≡ areasOf self ⌝ }
-    {
-        let image_pa = self.guest_image_pa;
-        let image = image_pa.window();
-        let device = self.device_window();
-        [
-            Area {
-                present: image.present,
-                ipa: image.ipa,
-                table: self.l2_code_pa,
-            },
-            Area {
-                present: true,
-                ipa: self.data_ipa_base,
-                table: self.l2_data_pa,
-            },
-            Area {
-                present: true,
-                ipa: self.sup_ipa_base,
-                table: self.l2_sup_pa,
-            },
-            Area {
-                present: device.present,
-                ipa: device.ipa,
-                table: self.l2_dev_pa,
-            },
-        ]
-    }
-
-    // The same in verification's order: data, super, image, device.
-    pub fn live_areas(self) -> [Area; Self::WINDOWS]
-        ensures { λ r. ⌜ r ≡ liveAreasOf self ⌝ }
-    {
-        let areas = self.areas();
-        [areas[1], areas[2], areas[0], areas[3]]
     }
 
     // Row 6's six checks, in their order.
@@ -338,24 +266,6 @@ impl Window {
         ensures { λ r. ⌜ r ≡ slot self ⌝ }
     {
         Layout::l1_index(self.ipa)
-    }
-}
-
-impl Area {
-    pub fn l1_index(self) -> u64
-        ensures { λ r. ⌜ r ≡ areaSlot self ⌝ }
-    {
-        Layout::l1_index(self.ipa)
-    }
-
-    // Whether it has the word at this index of table 1.
-    pub fn has(self, j: u64) -> bool
-        ensures { λ r. ⌜ r ≡ areaHas self j ⌝ }
-    {
-        if !self.present {
-            return false;
-        }
-        self.l1_index() == j
     }
 }
 

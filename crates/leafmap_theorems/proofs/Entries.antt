@@ -8,12 +8,13 @@ use lib.ListN.{length, getD, set, replicate}
 use borrow.Author.Tests.{ltb-true}
 use Rattle.edge.specs.Edge.{entryOf, counts}
 use Rattle.edge.specs.declared.Edge.{Edge}
-use Rattle.exact.proofs.After.{stored, stays}
-use Rattle.exact.specs.Exact.{isSpan, lands, afterEdge, afterEdges, expected}
+use Rattle.expected.proofs.After.{stored, stays}
+use Rattle.expected.specs.Expected.{isSpan, lands, afterEdge, afterEdges, expected}
 use Rattle.fields.specs.Named.{pick}
 use Rattle.filling.proofs.Onward.{on, off}
 use Rattle.filling.proofs.Placed.{place-none, place-next, place-stop}
 use Rattle.filling.specs.Filling.{Filling, Put, put, mapOf, putIn, inMap, putUnder, placed, placedAll, conflicts, clearedMaps, filledInto}
+use Rattle.leafmap_theorems.specs.Entries.{Entries, SameEntries}
 use Rattle.p2m.specs.Frame.{kindAt, spanOfKind}
 use Rattle.p2m.specs.declared.Span.{Span}
 use Rattle.p2m.specs.declared.Span.the-variants.{Base, Super}
@@ -21,7 +22,6 @@ use Rattle.p2m.specs.declared.TableSpan.{TableSpan}
 use Rattle.p2m.specs.declared.TableSpan.the-variants.{Leaves, Unsupported}
 use Rattle.refusal.proofs.None.{refused≢accepted}
 use Rattle.refusal.specs.Table.{row, Outcome, accepted, refused}
-use Rattle.leafmap_theorems.specs.Entries.{Entries, SameEntries}
 
 -- what an edge leaves in a map, inside it and past it
 abbrev pub putBy : Bool → List ℕ → Edge → Put

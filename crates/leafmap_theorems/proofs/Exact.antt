@@ -8,12 +8,15 @@ use lib.ListN.{length, getD, length-set, length-replicate}
 use borrow.Author.Tests.{ltb-false, le-ltb, eq-eqb}
 use Rattle.edge.specs.Edge.{entryOf, counts}
 use Rattle.edge.specs.declared.Edge.{Edge}
-use Rattle.exact.specs.Exact.{lands, afterEdge, afterEdges, expected, row25, comparedRows, exactRows}
+use Rattle.exact.specs.Exact.{row25, comparedRows, exactRows}
+use Rattle.expected.specs.Expected.{lands, afterEdge, afterEdges, expected}
 use Rattle.fields.specs.Named.{pick}
 use Rattle.filling.proofs.Filled.{fitting, too-long}
 use Rattle.filling.specs.Filling.{Filling, filling, mapOf, putIn, inMap, putUnder, placed, onward, unless, placedAll, clearedMaps}
 use Rattle.filling.specs.Filling.{filledInto, filled}
 use Rattle.layout.specs.Size.{entries as mapEntries}
+use Rattle.leafmap_theorems.specs.Entries.{FilledExact}
+use Rattle.leafmap_theorems.proofs.Entries.{putBy, placed-maps, entries}
 use Rattle.lent_rows.proofs.Codes.{no-row3}
 use Rattle.p2m.specs.Frame.{kindAt, spanCode, spanOfKind}
 use Rattle.p2m.specs.declared.Span.{Span}
@@ -25,8 +28,6 @@ use Rattle.perm.specs.declared.Perm.the-variants.{Ro, Rw, Rx}
 use Rattle.refusal.proofs.None.{none, both, test, accept, refused≢accepted, from-nowhere}
 use Rattle.refusal.specs.Table.{Outcome, accepted, refused, first}
 use Rattle.rows.specs.Rows.{row2, row3, lengthRows, readRows}
-use Rattle.leafmap_theorems.specs.Entries.{FilledExact}
-use Rattle.leafmap_theorems.proofs.Entries.{putBy, placed-maps, entries}
 
 -- no step changes a length
 

@@ -8,14 +8,18 @@ use native.Mathlib.Omega.{arith}
 use lib.Dec.{ltb}
 use lib.ListN.{length, getD, length-replicate, List·getD-eq-default}
 use borrow.Author.Tests.{ltb-true, ltb-false, lt-ltb}
+use Rattle.conflict.specs.Conflict.{row17}
 use Rattle.edge.specs.Edge.{counts}
 use Rattle.edge.specs.declared.Edge.{Edge}
 use Rattle.fields.specs.Named.{pick}
 use Rattle.fields.specs.Numbers.{nonzero}
 use Rattle.filling.proofs.Onward.{on}
 use Rattle.filling.proofs.Placed.{place-none, place-next}
-use Rattle.filling.specs.Filling.{Filling, mapOf, putIn, inMap, putUnder, placed, placedAll, row17, conflicts, clearedMaps, filledInto}
+use Rattle.filling.specs.Filling.{Filling, mapOf, putIn, inMap, putUnder, placed, placedAll, conflicts, clearedMaps, filledInto}
 use Rattle.layout.specs.Size.{entries as mapEntries}
+use Rattle.leafmap_theorems.specs.Entries.{LongerAccepts, FillsWhole}
+use Rattle.leafmap_theorems.proofs.Entries.{putBy, accepted-before, all-placed, placed-entry, same-entries}
+use Rattle.leafmap_theorems.proofs.Exact.{kept-one, fit, into, short}
 use Rattle.p2m.specs.Frame.{kindAt, spanOfKind}
 use Rattle.p2m.specs.declared.Span.{Span}
 use Rattle.p2m.specs.declared.Span.the-variants.{Base, Super}
@@ -23,9 +27,6 @@ use Rattle.p2m.specs.declared.TableSpan.{TableSpan}
 use Rattle.p2m.specs.declared.TableSpan.the-variants.{Leaves, Unsupported}
 use Rattle.refusal.proofs.None.{none, accept, from-none, from-nowhere, refused≢accepted}
 use Rattle.refusal.specs.Table.{accepted, refused, refuseIf}
-use Rattle.leafmap_theorems.specs.Entries.{LongerAccepts, FillsWhole}
-use Rattle.leafmap_theorems.proofs.Entries.{putBy, accepted-before, all-placed, placed-entry, same-entries}
-use Rattle.leafmap_theorems.proofs.Exact.{kept-one, fit, into, short}
 
 abbrev Longer : Filling → Filling → Type 0
 Longer f g = (s : Span) → length (mapOf s f) ≤ length (mapOf s g)

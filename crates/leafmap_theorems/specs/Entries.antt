@@ -5,7 +5,8 @@ use mathlib.Core.Logic.{_⊎_}
 use mathlib.Core.Path.{_≡_}
 use lib.ListN.{getD}
 use Rattle.edge.specs.declared.Edge.{Edge}
-use Rattle.exact.specs.Exact.{expected, exactRows}
+use Rattle.exact.specs.Exact.{exactRows}
+use Rattle.expected.specs.Expected.{expected}
 use Rattle.filling.specs.Filling.{mapOf, placed, placedAll, conflicts, clearedMaps, filledInto, filled}
 use Rattle.layout.specs.Size.{entries as mapEntries}
 use Rattle.p2m.specs.declared.Span.{Span}

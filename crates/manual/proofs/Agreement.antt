@@ -8,17 +8,17 @@ use lib.Dec.{eqb, ltb}
 use borrow.Author.Tests.{eq-eqb}
 use Rattle.decode.specs.declared.DecodedTable.the-variants.{At, Nothing as NoTable}
 use Rattle.desc.specs.Descriptor.{descriptorType, blockType, tableType, pageType, pageAddress, blockAddress}
+use Rattle.descent.specs.Descent.{Words, index, fetchFrom, endsAt, leads}
 use Rattle.fields.specs.Bits.{bits}
 use Rattle.fields.specs.Named.{pick}
 use Rattle.layout.specs.Size.{entries, page, block, inputLimit}
-use Rattle.reach.specs.declared.Reached.the-variants.{Nothing}
-use Rattle.reach.specs.declared.Reached.{Reached}
-use Rattle.walk.specs.Descent.{Words, index, fetchFrom, endsAt, leads}
-use Rattle.walk.specs.Walk.{reading}
 use Rattle.manual.specs.Agreement.{alike, among, ordinary, WalksAgree}
 use Rattle.manual.specs.Translation.{Access, Machine, Translated, fault, allowed}
 use Rattle.manual.proofs.Alike.{leaves-agree}
 use Rattle.manual.proofs.OneDescent.{from, answer, walkDescent, walk-descends, manualEnds, manualDescent, manual-descends}
+use Rattle.reach.specs.declared.Reached.the-variants.{Nothing}
+use Rattle.reach.specs.declared.Reached.{Reached}
+use Rattle.walk.specs.Walk.{reading}
 
 -- a table that is among those listed is read whatever stands outside, and its words are the arena's
 module _ (words : Words) (named j : ℕ) where

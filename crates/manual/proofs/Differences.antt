@@ -1,9 +1,9 @@
 -- The differences, by computing.
 use mathlib.Core.Path.{refl}
-use Rattle.walk.specs.Descent.{fetchFrom, descend}
-use Rattle.walk.specs.Walk.{walkOf}
+use Rattle.descent.specs.Descent.{fetchFrom, descend}
 use Rattle.manual.specs.Differences.{Differences}
 use Rattle.manual.specs.Translation.{level1, level2, level3, translation}
+use Rattle.walk.specs.Walk.{walkOf}
 
 pub differences : Differences
 unfolding fetchFrom descend walkOf level1 level2 level3 translation

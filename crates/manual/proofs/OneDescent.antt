@@ -12,15 +12,15 @@ use Rattle.decode.specs.Decoded.{decodedTable}
 use Rattle.decode.specs.declared.DecodedTable.{DecodedTable}
 use Rattle.decode.specs.declared.DecodedTable.the-variants.{At, Nothing as NoTable}
 use Rattle.desc.specs.Descriptor.{descriptorType, blockType, tableType, pageType, pageAddress, blockAddress}
+use Rattle.descent.specs.Descent.{Words, index, fetchFrom, fetch, endsAt, nextTable, leads, descend}
+use Rattle.descent.specs.declared.Stop.the-variants.{Stopped}
 use Rattle.fields.specs.Bits.{bits}
 use Rattle.fields.specs.Named.{pick}
 use Rattle.layout.specs.Size.{entries, inputLimit}
+use Rattle.manual.specs.Translation.{Machine, Access, Translated, fault, leaf, lookup, level1, level2, level3, translation}
 use Rattle.reach.specs.declared.Reached.{Reached}
 use Rattle.reach.specs.declared.Reached.the-variants.{Nothing}
-use Rattle.walk.specs.Descent.{Words, index, fetchFrom, fetch, endsAt, nextTable, leads, descend}
 use Rattle.walk.specs.Walk.{reading, walkOf}
-use Rattle.walk.specs.declared.Stop.the-variants.{Stopped}
-use Rattle.manual.specs.Translation.{Machine, Access, Translated, fault, leaf, lookup, level1, level2, level3, translation}
 
 -- how words are read: what stands outside the arena, by the table named and the index; the table that a word leads to; and the answer where
 -- it leads to none, by the address and the levels left. 0 leads to none, and says nothing

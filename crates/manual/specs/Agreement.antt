@@ -6,11 +6,11 @@ use mathlib.Core.Path.{_≡_}
 use lib.Dec.{eqb}
 use Rattle.decode.specs.Decoded.{leafAt}
 use Rattle.desc.specs.Descriptor.{descriptorType, blockType, tableType, pageType, af, xn, pageAddress}
+use Rattle.descent.specs.Descent.{Words}
 use Rattle.fields.specs.Bits.{bits}
 use Rattle.fields.specs.Named.{pick}
-use Rattle.walk.specs.Descent.{Words}
-use Rattle.walk.specs.Walk.{leafReach, walkOf}
 use Rattle.manual.specs.Translation.{Access, Machine, leaf, translation, allowed}
+use Rattle.walk.specs.Walk.{leafReach, walkOf}
 
 -- bit 53 is not read, or clear
 abbrev pub noXnx : Bool → ℕ → Bool

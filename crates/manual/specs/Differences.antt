@@ -4,13 +4,13 @@ use mathlib.Core.Bool.{Bool, true, false}
 use mathlib.Core.List.{List, [], _∷_}
 use mathlib.Core.Path.{_≡_}
 use lib.Dec.{eqb}
+use Rattle.descent.specs.Descent.{Words}
 use Rattle.fields.specs.Named.{pick}
+use Rattle.manual.specs.Translation.{Level, el1, Access, reads, writes, executes, Machine, Translated, byte, fault, translation}
 use Rattle.perm.specs.declared.Perm.the-variants.{Ro}
 use Rattle.reach.specs.declared.Reached.{Reached}
 use Rattle.reach.specs.declared.Reached.the-variants.{At, Nothing}
-use Rattle.walk.specs.Descent.{Words}
 use Rattle.walk.specs.Walk.{walkOf}
-use Rattle.manual.specs.Translation.{Level, el1, Access, reads, writes, executes, Machine, Translated, byte, fault, translation}
 
 abbrev pub tables : List ℕ
 tables = 0x1000 ∷ 0x2000 ∷ []

@@ -6,13 +6,13 @@ use mathlib.Core.List.{List}
 use lib.Dec.{eqb, ltb}
 use lib.ListN.{getD}
 use Rattle.desc.specs.Descriptor.{descriptorType, blockType, tableType, pageType, af, pageAddress, blockAddress}
+use Rattle.descent.specs.Descent.{Words, index, fetch}
 use Rattle.fields.specs.Bits.{bits}
 use Rattle.fields.specs.Named.{pick}
 use Rattle.perm.specs.Perm.{permWrites}
 use Rattle.reach.specs.declared.Reach.{Reach}
 use Rattle.reach.specs.declared.Reached.{Reached}
 use Rattle.reach.specs.declared.Reached.the-variants.{At, Nothing}
-use Rattle.walk.specs.Descent.{Words, index, fetch}
 
 -- what a guest does with an address; an instruction is fetched at EL0 or EL1
 pub data Level : Type 0 where

@@ -9,17 +9,17 @@ use Rattle.fields.specs.Named.{named}
 use Rattle.fields.specs.Numbers.{eight, low}
 use Rattle.granule.specs.Granule.{granuleNamed}
 use Rattle.granule.specs.StartLevel.{levelNamed}
-use Rattle.p2m.specs.Frame.{levelOfKind}
-use Rattle.regime.specs.Codes.{sizeNamed}
+use Rattle.page_type.specs.PageType.{levelOfKind}
+use Rattle.probe_numbers.specs.Frames.{frameAnswer}
+use Rattle.probe_numbers.specs.Granules.{granuleNumbers, startLevelNumbers, sizeNumbers, widthNamed, widthNumbers}
+use Rattle.probe_numbers.specs.Levels.{tableLevelNumbers, typeNamed, typeNumbers}
+use Rattle.probe_numbers.specs.Regimes.{regimeAnswer}
+use Rattle.probe_numbers.specs.Registers.{decodedNumbers, partNumbers}
+use Rattle.probe_numbers.specs.Words.{permNamed, permNumbers, memoryNumbers, constantNumbers, wordNumbers, leafNumbers, tableNumbers}
+use Rattle.probe_numbers.specs.Words.{deviceNumbers}
+use Rattle.sizes.specs.Codes.{sizeNamed}
 use Rattle.vtcr.specs.Vtcr.{decodedVtcr}
 use Rattle.vttbr.specs.Vttbr.{vttbrOf}
-use Rattle.probe.specs.Frames.{frameAnswer}
-use Rattle.probe.specs.Granules.{granuleNumbers, startLevelNumbers, sizeNumbers, widthNamed, widthNumbers}
-use Rattle.probe.specs.Levels.{tableLevelNumbers, typeNamed, typeNumbers}
-use Rattle.probe.specs.Regimes.{regimeAnswer}
-use Rattle.probe.specs.Registers.{decodedNumbers, partNumbers}
-use Rattle.probe.specs.Words.{permNamed, permNumbers, memoryNumbers, constantNumbers, wordNumbers, leafNumbers, tableNumbers}
-use Rattle.probe.specs.Words.{deviceNumbers}
 
 -- the answer of function op at the numbers x: eight numbers for eight; zeros where there is no such function. 17 is
 -- VTTBR_EL2 of a base and a VMID

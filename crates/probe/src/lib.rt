@@ -1,12 +1,11 @@
 // Every function of the lower layers by a number, with eight numbers in and eight out: what the comparison with the Rust links, and
 // what the replay of its recorded answers calls. Nothing else uses it.
-mod frames;
-mod granules;
-mod levels;
-mod regimes;
-mod registers;
-mod words;
-
+use probe_numbers::frames;
+use probe_numbers::granules;
+use probe_numbers::levels;
+use probe_numbers::regimes;
+use probe_numbers::registers;
+use probe_numbers::words;
 ghost use mathlib.Core.Path.{_≡_};
 ghost use Rattle.probe.specs.Answers.{answerOf};
 

@@ -9,8 +9,8 @@ use Rattle.granule.specs.declared.Granule.the-variants.{K4}
 use Rattle.granule.specs.declared.StartLevel.the-variants.{L1}
 use Rattle.regime.specs.declared.Determined.the-variants.{Value, Undefined}
 use Rattle.regime.specs.declared.Determined.{Determined}
-use Rattle.regime.specs.declared.PaSize.the-variants.{B40}
 use Rattle.regime.specs.declared.Stage2Regime.{Stage2Regime}
+use Rattle.sizes.specs.declared.PaSize.the-variants.{B40}
 
 -- what the walk resolves below its start level
 unfoldable pub below : Stage2Regime → ℕ

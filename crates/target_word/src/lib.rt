@@ -1,5 +1,5 @@
 // The word that encoding into zeros leaves at a place of the arena: what an update stores.
-use layout::Area;
+use areas::Area;
 use layout::Layout;
 use layout::Window;
 ghost use Prim.Native.Nat.{ℕ, _+_, _*_, _<_};
@@ -28,7 +28,7 @@ fn l1_word(l: Layout, j: usize) -> u64
     requires { ⌜ j < entries ⌝ }
     ensures { λ r. ⌜ ((base sup : List ℕ) → r ≡ target l base sup j) ⌝ }
 {
-    last_named(l.areas(), j)
+    last_named(areas::areas(l), j)
 }
 
 // Where areas share a slot, which row 11 refuses, the last one's word stands.

@@ -52,10 +52,10 @@ fn base_frame(arena: &[u64], base: &[u8], pa: u64, m: usize) -> Verdict
     ensures { λ r. ⌜ outcomeOf r ≡ first (baseRow (now (arena .entry)) (now (base .entry)) pa m) ⌝ }
 {
     let index = m as u64;
-    let d = verify_word::table_word(arena, 4, m as u32);
+    let d = verify_read::table_word(arena, 4, m as u32);
     let entry = lent_rows::entry_at(base, m);
-    let want = verify_word::wanted_leaf(entry, arena::page_address(pa, m as u32), false);
-    verify_word::leaf(4, index, d, index, verify_word::read_page(d), want)
+    let want = verify_read::wanted_leaf(entry, arena::page_address(pa, m as u32), false);
+    verify_word::leaf(4, index, d, index, verify_read::read_page(d), want)
 }
 
 // Table 5. Supers at or past sup_frames are looked for like the others: row 14 is not tested here.
@@ -95,10 +95,10 @@ fn super_frame(arena: &[u64], sup: &[u8], ipa: u64, pa: u64, exempt: bool, m: us
     ensures { λ r. ⌜ outcomeOf r ≡ first (superRow (now (arena .entry)) (now (sup .entry)) ipa pa exempt m) ⌝ }
 {
     let index = super_index(ipa, m);
-    let d = verify_word::table_word(arena, 5, index as u32);
+    let d = verify_read::table_word(arena, 5, index as u32);
     let entry = lent_rows::entry_at(sup, m);
-    let want = verify_word::wanted_leaf(entry, arena::block_address(pa, m as u32), exempt);
-    verify_word::leaf(5, index, d, m as u64, verify_word::read_block(d), want)
+    let want = verify_read::wanted_leaf(entry, arena::block_address(pa, m as u32), exempt);
+    verify_word::leaf(5, index, d, m as u64, verify_read::read_block(d), want)
 }
 
 // A super stands at its own slot, not at its frame number.
@@ -144,7 +144,7 @@ fn device_slot(arena: &[u64], table: u32, w: Window, j: usize) -> Verdict
     ensures { λ r. ⌜ outcomeOf r ≡ first (deviceRow (now (arena .entry)) table w j) ⌝ }
 {
     let index = j as u64;
-    let d = verify_word::table_word(arena, table, j as u32);
+    let d = verify_read::table_word(arena, table, j as u32);
     verify_word::device_block(table as u64, index, d, wanted_block(w, index))
 }
 

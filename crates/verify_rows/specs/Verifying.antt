@@ -4,14 +4,14 @@ use mathlib.Core.Bool.{Bool, true, false, not, _&&_, _||_}
 use mathlib.Core.List.{List, [], _∷_}
 use lib.Dec.{eqb, leb, ltb}
 use lib.ListN.{getD}
+use Rattle.areas.specs.Area.{liveAreasOf, areaSlot, areaHas}
+use Rattle.areas.specs.declared.Area.{Area}
 use Rattle.decode.specs.declared.DecodedBlock.the-variants.{Device, Nothing}
 use Rattle.decode.specs.declared.DecodedBlock.{DecodedBlock}
 use Rattle.desc.specs.Descriptor.{pageAddress, blockAddress}
 use Rattle.fields.specs.Named.{pick}
-use Rattle.layout.specs.Area.{liveAreasOf, areaSlot, areaHas}
 use Rattle.layout.specs.Size.{entries, page, block, l1Span, firstWord}
 use Rattle.layout.specs.Window.{imageWindow, deviceWindow, l2Slot}
-use Rattle.layout.specs.declared.Area.{Area}
 use Rattle.layout.specs.declared.Layout.{Layout}
 use Rattle.layout.specs.declared.Window.{Window}
 use Rattle.refusal.specs.Table.{Row, given, each, allRows}

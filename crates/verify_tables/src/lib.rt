@@ -1,5 +1,5 @@
 // Verification of tables 1 to 3 (hv-s2's arm64.rs, `verify_encoding`): the words that name tables, the image's block, and no others.
-use layout::Area;
+use areas::Area;
 use layout::Layout;
 use refusal::Refusal;
 use refusal::Verdict;
@@ -16,7 +16,7 @@ ghost use Rattle.verify_rows.specs.Word.{row19};
 pub fn verify_l1(arena: &[u64], l: Layout) -> Verdict
     ensures { λ r. ⌜ outcomeOf r ≡ first (l1Rows (now (arena .entry)) l) ⌝ }
 {
-    let live = live_words(arena, l.live_areas());
+    let live = live_words(arena, areas::live_areas(l));
     let Verdict::Accepted = live else {
         return live;
     };
@@ -44,7 +44,7 @@ fn live_word(arena: &[u64], area: Area) -> Verdict
         return Verdict::Accepted;
     }
     let index = area.l1_index();
-    let d = verify_word::table_word(arena, 1, index as u32);
+    let d = verify_read::table_word(arena, 1, index as u32);
     verify_word::table_entry(1, index, d, area.table)
 }
 
@@ -69,7 +69,7 @@ fn image_word(arena: &[u64], present: bool, ipa: u64, pa: u64) -> Verdict
         return Verdict::Accepted;
     }
     let index = Layout::l2_index(ipa);
-    verify_word::image_block(verify_word::table_word(arena, 2, index as u32), pa)
+    verify_word::image_block(verify_read::table_word(arena, 2, index as u32), pa)
 }
 
 // Table 3.
@@ -77,7 +77,7 @@ pub fn verify_data(arena: &[u64], l: Layout) -> Verdict
     ensures { λ r. ⌜ outcomeOf r ≡ first (dataRows (now (arena .entry)) l) ⌝ }
 {
     let index = Layout::l2_index(l.data_ipa_base);
-    let d = verify_word::table_word(arena, 3, index as u32);
+    let d = verify_read::table_word(arena, 3, index as u32);
     let pages = verify_word::table_entry(3, index, d, l.l3_data_pa);
     let Verdict::Accepted = pages else {
         return pages;
@@ -91,7 +91,7 @@ fn other_words(arena: &[u64], l: Layout, table: u32) -> Verdict
 {
     let mut j = past_zeros(arena, table, 0);
     while j < Layout::ENTRIES {
-        let desc = verify_word::table_word(arena, table, j as u32);
+        let desc = verify_read::table_word(arena, table, j as u32);
         if desc != 0 {
             if !live_at(l, table, j as u64) {
                 return Verdict::Refused(Refusal::SpuriousDescriptor {
@@ -140,7 +140,7 @@ fn live_at(l: Layout, table: u32, j: u64) -> bool
     ensures { λ r. ⌜ r ≡ liveAt l table j ⌝ }
 {
     match table {
-        1 => window_at(l.live_areas(), j),
+        1 => window_at(areas::live_areas(l), j),
         2 => image_at(l, j),
         _ => Layout::l2_index(l.data_ipa_base) == j,
     }

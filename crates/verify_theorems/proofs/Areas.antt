@@ -7,12 +7,12 @@ use native.Mathlib.Omega.{arith}
 use lib.Dec.{eqb}
 use borrow.Author.Tests.{eqb-true, ne-eqb}
 use Rattle.accepted_facts.specs.Accepted.{Accepted, Apart}
+use Rattle.areas.specs.Area.{areasOf, liveAreasOf, areaHas}
+use Rattle.areas.specs.declared.Area.{Area}
 use Rattle.arena.proofs.At.{l1At, at-1, last-none, last-here}
 use Rattle.arena.specs.Word.{tableTo}
-use Rattle.layout.specs.Area.{areasOf, liveAreasOf, areaHas}
 use Rattle.layout.specs.Size.{entries, boardLimit}
 use Rattle.layout.specs.Window.{windowsOf, slot}
-use Rattle.layout.specs.declared.Area.{Area}
 use Rattle.layout.specs.declared.Layout.{Layout}
 use Rattle.layout.specs.declared.Window.{Window}
 use Rattle.refusal.proofs.All.{all-always, all-every, pairs-map}

@@ -7,12 +7,12 @@ use native.Mathlib.Omega.{arith}
 use lib.Dec.{eqb, leb, ltb}
 use lib.ListN.{length, getD, length-set}
 use borrow.Author.Tests.{eq-eqb, eqb-true, eqb-false, leb-true, ltb-true, not-false}
+use Rattle.areas.specs.Area.{liveAreasOf, areaSlot}
+use Rattle.areas.specs.declared.Area.{Area}
 use Rattle.desc.specs.Descriptor.{pageAddress, blockAddress}
 use Rattle.fields.specs.Named.{pick}
-use Rattle.layout.specs.Area.{liveAreasOf, areaSlot}
 use Rattle.layout.specs.Size.{entries, page, block, tableCount, arenaLength}
 use Rattle.layout.specs.Window.{imageWindow, deviceWindow, l2Slot}
-use Rattle.layout.specs.declared.Area.{Area}
 use Rattle.layout.specs.declared.Layout.{Layout}
 use Rattle.layout.specs.declared.Window.{Window}
 use Rattle.refusal.proofs.None.{none, both, test}

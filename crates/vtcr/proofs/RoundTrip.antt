@@ -12,14 +12,14 @@ use Rattle.granule.specs.declared.GranuleNamed.the-variants.{Granule as IsGranu
 use Rattle.granule.specs.declared.LevelNamed.the-variants.{Level}
 use Rattle.granule.specs.declared.StartLevel.the-variants.{L0, L1, L2, L3}
 use Rattle.granule.specs.declared.StartLevel.{StartLevel}
-use Rattle.regime.specs.Codes.{ps, sizeNamed, vs, vmidBitsNamed}
 use Rattle.regime.specs.Regime.{below, inputFits, validRegime}
-use Rattle.regime.specs.declared.PaSize.the-variants.{B32, B36, B40, B42, B44, B48, B52}
-use Rattle.regime.specs.declared.PaSize.{PaSize}
-use Rattle.regime.specs.declared.SizeNamed.the-variants.{Size}
 use Rattle.regime.specs.declared.Stage2Regime.{Stage2Regime}
-use Rattle.regime.specs.declared.VmidBits.the-variants.{B8, B16}
-use Rattle.regime.specs.declared.VmidBits.{VmidBits}
+use Rattle.sizes.specs.Codes.{ps, sizeNamed, vs, vmidBitsNamed}
+use Rattle.sizes.specs.declared.PaSize.the-variants.{B32, B36, B40, B42, B44, B48, B52}
+use Rattle.sizes.specs.declared.PaSize.{PaSize}
+use Rattle.sizes.specs.declared.SizeNamed.the-variants.{Size}
+use Rattle.sizes.specs.declared.VmidBits.the-variants.{B8, B16}
+use Rattle.sizes.specs.declared.VmidBits.{VmidBits}
 use Rattle.vtcr.specs.Fields.{vtcrJoined}
 use Rattle.vtcr.specs.RoundTrip.{VtcrRoundTrip, BaleenValue}
 use Rattle.vtcr.specs.Vtcr.{fieldsFor, regimeWith, regimeNamed, decodedFields}

@@ -6,10 +6,10 @@ use native.Mathlib.Omega.{arith}
 use borrow.Author.Tests.{leb-true, ltb-true}
 use Rattle.granule.proofs.Bounds.{page-range, sl0-range, tg0-range}
 use Rattle.granule.specs.Granule.{pageBits}
-use Rattle.regime.proofs.Bounds.{ps-range, vs-range}
 use Rattle.regime.specs.Regime.{inputFits, validRegime}
 use Rattle.regime.specs.declared.Stage2Regime.{Stage2Regime}
-use Rattle.regime.specs.declared.VmidBits.{VmidBits}
+use Rattle.sizes.proofs.Bounds.{ps-range, vs-range}
+use Rattle.sizes.specs.declared.VmidBits.{VmidBits}
 use Rattle.vtcr.specs.Fields.{InRange}
 use Rattle.vtcr.specs.Vtcr.{fieldsFor}
 

@@ -4,8 +4,8 @@ use mathlib.Core.Bool.{true}
 use mathlib.Core.Path.{_≡_}
 use Rattle.regime.specs.Regime.{validRegime, baleenStage2}
 use Rattle.regime.specs.declared.Stage2Regime.{Stage2Regime}
-use Rattle.regime.specs.declared.VmidBits.the-variants.{B8}
-use Rattle.regime.specs.declared.VmidBits.{VmidBits}
+use Rattle.sizes.specs.declared.VmidBits.the-variants.{B8}
+use Rattle.sizes.specs.declared.VmidBits.{VmidBits}
 use Rattle.vtcr.specs.Vtcr.{vtcrOf, decodedVtcr}
 use Rattle.vtcr.specs.declared.DecodedVtcr.the-variants.{Regime}
 use Rattle.vtcr.specs.declared.Vtcr.the-variants.{Value}

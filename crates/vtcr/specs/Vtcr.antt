@@ -10,13 +10,13 @@ use Rattle.granule.specs.declared.GranuleNamed.{GranuleNamed}
 use Rattle.granule.specs.declared.LevelNamed.the-variants.{Level, Reserved as NoLevel}
 use Rattle.granule.specs.declared.LevelNamed.{LevelNamed}
 use Rattle.granule.specs.declared.StartLevel.{StartLevel}
-use Rattle.regime.specs.Codes.{ps, sizeNamed, vs, vmidBitsNamed}
 use Rattle.regime.specs.Regime.{validRegime}
-use Rattle.regime.specs.declared.PaSize.{PaSize}
-use Rattle.regime.specs.declared.SizeNamed.the-variants.{Size, Reserved as NoSize}
-use Rattle.regime.specs.declared.SizeNamed.{SizeNamed}
 use Rattle.regime.specs.declared.Stage2Regime.{Stage2Regime}
-use Rattle.regime.specs.declared.VmidBits.{VmidBits}
+use Rattle.sizes.specs.Codes.{ps, sizeNamed, vs, vmidBitsNamed}
+use Rattle.sizes.specs.declared.PaSize.{PaSize}
+use Rattle.sizes.specs.declared.SizeNamed.the-variants.{Size, Reserved as NoSize}
+use Rattle.sizes.specs.declared.SizeNamed.{SizeNamed}
+use Rattle.sizes.specs.declared.VmidBits.{VmidBits}
 use Rattle.vtcr.specs.Fields.{vtcrFieldsOf, vtcrJoined}
 use Rattle.vtcr.specs.declared.DecodedVtcr.the-variants.{Regime, Nothing}
 use Rattle.vtcr.specs.declared.DecodedVtcr.{DecodedVtcr}

@@ -5,8 +5,8 @@ use native.Mathlib.Nat.{mod-eq-of-lt}
 use native.Mathlib.Omega.{arith}
 use lib.Bits.{or-shifted-r}
 use Rattle.fields.specs.Bits.{bits}
-use Rattle.regime.proofs.Bounds.{vmids-range}
-use Rattle.regime.specs.Codes.{vmids}
+use Rattle.sizes.proofs.Bounds.{vmids-range}
+use Rattle.sizes.specs.Codes.{vmids}
 use Rattle.vttbr.specs.RoundTrip.{VttbrRoundTrip}
 use Rattle.vttbr.specs.Vttbr.{vttbrOf, baddr, vmidOf}
 

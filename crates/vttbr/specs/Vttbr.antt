@@ -2,8 +2,8 @@
 use Prim.Native.Nat.{ℕ, _*_, _%_, _^_}
 use lib.Bits.{bitOr}
 use Rattle.fields.specs.Bits.{bits}
-use Rattle.regime.specs.Codes.{vmids}
-use Rattle.regime.specs.declared.VmidBits.{VmidBits}
+use Rattle.sizes.specs.Codes.{vmids}
+use Rattle.sizes.specs.declared.VmidBits.{VmidBits}
 
 -- the base joined with the VMID in its place; what does not fit 64 bits is lost
 abbrev pub vttbrOf : ℕ → ℕ → ℕ

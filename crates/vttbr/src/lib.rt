@@ -1,5 +1,5 @@
 // VTTBR_EL2 (hv-s2's arm64.rs): the table set as the CPU is given it.
-use regime::VmidBits;
+use sizes::VmidBits;
 ghost use mathlib.Core.Path.{_≡_};
 ghost use Rattle.vttbr.specs.Vttbr.{vttbrOf, baddr, vmidOf};
 

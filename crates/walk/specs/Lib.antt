@@ -1,4 +1,1 @@
-pub mod Descent
-pub mod Packed
-pub mod Path
 pub mod Walk

@@ -1,21 +1,20 @@
 -- What a walk reaches, by document 01 ("Arena"): the reading of the leaf where the descent ends.
 use Prim.Native.Nat.{ℕ, _+_, _%_}
 use mathlib.Core.List.{List}
-use lib.Dec.{eqb, ltb}
-use lib.ListN.{getD}
+use lib.Dec.{eqb}
 use Rattle.decode.specs.Decoded.{decodedPage, decodedBlock}
 use Rattle.decode.specs.declared.DecodedLeaf.{DecodedLeaf}
 use Rattle.decode.specs.declared.DecodedLeaf.the-variants.{Leaf as Decodes, Nothing as NoLeaf}
+use Rattle.descent.specs.Descent.{Words, wordsOf, stopOf}
+use Rattle.descent.specs.declared.Stop.{Stop}
+use Rattle.descent.specs.declared.Stop.the-variants.{Leaf, Stopped}
 use Rattle.fields.specs.Named.{pick}
-use Rattle.layout.specs.Size.{page, block, inputLimit}
+use Rattle.layout.specs.Size.{page, block}
 use Rattle.reach.specs.declared.Reached.{Reached}
 use Rattle.reach.specs.declared.Reached.the-variants.{At, Nothing}
 use Rattle.refusal.specs.Table.{first}
 use Rattle.refusal.specs.Told.{Told, after}
 use Rattle.rows.specs.Rows.{row1}
-use Rattle.walk.specs.Descent.{Words, wordsOf, descend}
-use Rattle.walk.specs.declared.Stop.{Stop}
-use Rattle.walk.specs.declared.Stop.the-variants.{Leaf, Stopped}
 
 -- the leaf's output address, and the offset below it; access 00 or 10 reaches nothing
 abbrev pub leafReach : ℕ → DecodedLeaf → Reached
@@ -26,10 +25,6 @@ leafReach offset NoLeaf = Nothing
 abbrev pub reading : ℕ → Stop → Reached
 reading x (Leaf level d) = pick (eqb level 3) (leafReach (x % page) (decodedPage d)) (leafReach (x % block) (decodedBlock d))
 reading x (Stopped level) = Nothing
-
--- where the walk stops: it starts at the l1 address; an address of 2^39 or more stops at level 0, as DDI 0487 has it
-abbrev pub stopOf : List ℕ → (ℕ → Words) → ℕ → Stop
-stopOf tables ws x = pick (ltb x inputLimit) (descend tables ws 2 (getD tables 0 0) x) (Stopped 0)
 
 unfoldable pub walkOf : List ℕ → (ℕ → Words) → ℕ → Reached
 walkOf tables ws x = reading x (stopOf tables ws x)

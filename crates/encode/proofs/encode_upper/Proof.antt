@@ -2,9 +2,9 @@
 use mathlib.Core.List.{[], _∷_, map}
 use mathlib.Core.Path.{ap}
 use borrow.Author.Needs.{needs}
+use Rattle.areas.specs.Area.{areasOf}
 use Rattle.arena.proofs.Over.{over-append, over-placed, over-runs}
 use Rattle.arena.specs.Encoded.{areaRun, upperRuns}
-use Rattle.layout.specs.Area.{areasOf}
 use Rattle.encode.proofs.encode_upper.Statement.{statement}
 use Rattle.encode.proofs.encode_upper.Tie as tie
 

@@ -1,9 +1,9 @@
 -- `put_area` meets its contract: a word where the area is present, else none.
 use borrow.Author.Needs.{needs}
+use Rattle.areas.specs.Area.{areaSlot}
 use Rattle.arena.proofs.Over.{over-placed, over-there, over-absent}
 use Rattle.arena.specs.Encoded.{one}
 use Rattle.arena.specs.Word.{tableTo}
-use Rattle.layout.specs.Area.{areaSlot}
 use Rattle.encode.proofs.put_area.Statement.{statement}
 use Rattle.encode.proofs.put_area.Tie as tie
 

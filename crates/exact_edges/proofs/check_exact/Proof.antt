@@ -54,32 +54,12 @@ use denote.Triple.Spec.{Meets, tripleOf}
 use denote.Triple.Table.{entered, cited}
 use denote.Triple.Walked.{says, Stays, walkOf, Walks, ends-at, walked, walk-meets}
 use denote.Triple.Clauses.{ensured, lasts}
-use Rattle.lending.proofs.Element.{element, shut}
-use Rattle.lending.proofs.Dropped.{dropped, dropped-go}
 use Rattle.edge.specs.Edge.{edgeOf}
 use Rattle.edge.specs.declared.Edge.{Edge}
-use Rattle.exact.specs.Exact.{exactRows, comparedRows, afterEdge}
-use Rattle.exact.proofs.Same.{same-compared}
-use Rattle.exact.proofs.SoFar.{Noted, none-noted, one-noted, all-noted}
-use Rattle.layout.specs.Size.{entries}
-use Rattle.p2m.specs.declared.Span.{Span}
-use Rattle.refusal.specs.Outcome.{outcomeOf}
-use Rattle.refusal.specs.Table.{first as firstRow}
-use Rattle.refusal.specs.declared.Verdict.{Verdict}
 use Rattle.edge.proofs.Edge as E
 use Rattle.edge.proofs.Edge.Laws as E′
-use Rattle.p2m.proofs.Span as S
-use Rattle.p2m.proofs.Span.Laws as S′
-use Rattle.refusal.proofs.Verdict as R
-use Rattle.refusal.proofs.Verdict.Laws as R′
-use Rattle.exact.proofs.unmapped as unmapped
-use Rattle.exact.proofs.unmapped.Symbol as unmapped-def
-use Rattle.exact.proofs.unmapped.Symbol.{name as #unmapped}
-use Rattle.exact.proofs.unmapped.Met as unmapped-thm
-use Rattle.exact.proofs.note as note
-use Rattle.exact.proofs.note.Symbol as note-def
-use Rattle.exact.proofs.note.Symbol.{name as #note}
-use Rattle.exact.proofs.note.Met as note-thm
+use Rattle.exact.specs.Exact.{exactRows, comparedRows}
+use Rattle.exact.proofs.Same.{same-compared}
 use Rattle.exact.proofs.compare as compare
 use Rattle.exact.proofs.compare.Symbol as compare-def
 use Rattle.exact.proofs.compare.Symbol.{name as #compare}
@@ -90,6 +70,27 @@ use Rattle.exact_edges.proofs.check_exact as check
 use Rattle.exact_edges.proofs.check_exact.Statement as stated
 use Rattle.exact_edges.proofs.check_exact.Code as code
 use Rattle.exact_edges.proofs.check_exact.Code.Mir as text
+use Rattle.expected.specs.Expected.{afterEdge}
+use Rattle.expected.proofs.SoFar.{Noted, none-noted, one-noted, all-noted}
+use Rattle.expected.proofs.unmapped as unmapped
+use Rattle.expected.proofs.unmapped.Symbol as unmapped-def
+use Rattle.expected.proofs.unmapped.Symbol.{name as #unmapped}
+use Rattle.expected.proofs.unmapped.Met as unmapped-thm
+use Rattle.expected.proofs.note as note
+use Rattle.expected.proofs.note.Symbol as note-def
+use Rattle.expected.proofs.note.Symbol.{name as #note}
+use Rattle.expected.proofs.note.Met as note-thm
+use Rattle.layout.specs.Size.{entries}
+use Rattle.lending.proofs.Element.{element, shut}
+use Rattle.lending.proofs.Dropped.{dropped, dropped-go}
+use Rattle.p2m.specs.declared.Span.{Span}
+use Rattle.p2m.proofs.Span as S
+use Rattle.p2m.proofs.Span.Laws as S′
+use Rattle.refusal.specs.Outcome.{outcomeOf}
+use Rattle.refusal.specs.Table.{first as firstRow}
+use Rattle.refusal.specs.declared.Verdict.{Verdict}
+use Rattle.refusal.proofs.Verdict as R
+use Rattle.refusal.proofs.Verdict.Laws as R′
 
 -- the wanted entries, and a frame's row
 abbrev Entries : RattleType
@@ -570,8 +571,8 @@ check-exact-spec 𝓤 H 𝓜 𝓖 𝓡 =
     entered 𝓤 H (tripleOf 𝓤 H (𝓖 .A) check.signature (check.spec 𝓤 H (𝓖 .A) (𝓜 .mem) (𝓡 .run)))
     (tables 𝓤 H 𝓜 𝓡 code.env .C) (tables 𝓤 H 𝓜 𝓡 code.env .Λ) #check-exact code.function (code.unfolded 𝓤 H 𝓜 𝓡)
     (check-meets 𝓤 H (𝓖 .A) (givenOf 𝓤 H 𝓜 𝓖) (𝓜 .mem) (𝓡 .run) (tablesOf 𝓤 H 𝓜 (tables 𝓤 H 𝓜 𝓡 code.env))
-    (cited 𝓤 H (Unmapped 𝓤 H (𝓖 .A) (𝓜 .mem) (𝓡 .run)) 𝓜 𝓡 code.env #unmapped unmapped-def.routine code.calls-exact·unmapped
+    (cited 𝓤 H (Unmapped 𝓤 H (𝓖 .A) (𝓜 .mem) (𝓡 .run)) 𝓜 𝓡 code.env #unmapped unmapped-def.routine code.calls-expected·unmapped
     (unmapped-thm.met 𝓤 H 𝓜 𝓖 𝓡))
-    (cited 𝓤 H (Note 𝓤 H (𝓖 .A) (𝓜 .mem) (𝓡 .run)) 𝓜 𝓡 code.env #note note-def.routine code.calls-exact·note (note-thm.met 𝓤 H 𝓜 𝓖 𝓡))
+    (cited 𝓤 H (Note 𝓤 H (𝓖 .A) (𝓜 .mem) (𝓡 .run)) 𝓜 𝓡 code.env #note note-def.routine code.calls-expected·note (note-thm.met 𝓤 H 𝓜 𝓖 𝓡))
     (cited 𝓤 H (Compare 𝓤 H (𝓖 .A) (𝓜 .mem) (𝓡 .run)) 𝓜 𝓡 code.env #compare compare-def.routine code.calls-exact·compare
     (compare-thm.met 𝓤 H 𝓜 𝓖 𝓡)))

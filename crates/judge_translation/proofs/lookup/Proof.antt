@@ -6,12 +6,12 @@ use lib.ListN.{drop}
 use borrow.Author.Needs.{needs}
 use borrow.Author.Tests.{eq-eqb, ne-eqb}
 use denote.Ref.{now}
-use Rattle.layout.specs.Size.{entries, tableCount}
-use Rattle.walk.proofs.Fetch.{fetch-at, fetch-end}
-use Rattle.walk.specs.Descent.{wordsOf, fetchFrom, fetch}
+use Rattle.descent.proofs.Fetch.{fetch-at, fetch-end}
+use Rattle.descent.specs.Descent.{wordsOf, fetchFrom, fetch}
 use Rattle.judge_translation.specs.Answer.{elsewhereOf}
 use Rattle.judge_translation.proofs.lookup.Statement.{statement}
 use Rattle.judge_translation.proofs.lookup.Tie as tie
+use Rattle.layout.specs.Size.{entries, tableCount}
 
 abbrev Inv-loop : tie.InvT-loop
 Inv-loop arena tables places named index t₀ t =

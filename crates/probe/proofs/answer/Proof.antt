@@ -7,8 +7,8 @@ use borrow.Author.Tests.{ne-eqb}
 use denote.Ref.{now}
 use Rattle.fields.specs.Numbers.{eight}
 use Rattle.probe.specs.Answers.{answerOf}
-use Rattle.probe.specs.Registers.{decodedNumbers}
-use Rattle.probe.specs.Words.{leafNumbers, tableNumbers, deviceNumbers}
+use Rattle.probe_numbers.specs.Registers.{decodedNumbers}
+use Rattle.probe_numbers.specs.Words.{leafNumbers, tableNumbers, deviceNumbers}
 use Rattle.probe.proofs.answer.Statement.{statement}
 use Rattle.probe.proofs.answer.Tie as tie
 

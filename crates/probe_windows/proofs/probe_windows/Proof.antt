@@ -4,16 +4,16 @@ use borrow.Author.Needs.{needs}
 use denote.Ref.{now}
 use Rattle.layout.specs.Size.{boardLimit}
 use Rattle.layout.specs.declared.Layout.{Layout}
+use Rattle.probe_windows.proofs.probe_windows.Statement.{statement}
+use Rattle.probe_windows.proofs.probe_windows.Tie as tie
 use Rattle.reach.specs.Reach.{reachValues}
 use Rattle.refusal.specs.Table.{first}
 use Rattle.refusal.specs.Told.{after, toldWords}
 use Rattle.rows.specs.Rows.{guardRows}
 use Rattle.window_reach.specs.Granted.{granted}
-use Rattle.probe_windows.proofs.probe_windows.Statement.{statement}
-use Rattle.probe_windows.proofs.probe_windows.Tie as tie
 
-of-requires : tie.Need-of-requires
-of-requires c κs = search needs
+layout-of-requires : tie.Need-layout-of-requires
+layout-of-requires c κs = search needs
 
 window-reach-requires : tie.Need-window-reach-requires
 window-reach-requires c κs = search needs
@@ -32,7 +32,7 @@ returns c =
     ∙ ap
     (λ (l : Layout).
     toldWords reachValues (after (first (guardRows boardLimit base sup l)) (granted l base sup (lent .ipa))))
-    (r .before .of .ensures)
+    (r .before .layout-of .ensures)
 
 pub probe-windows-spec : {M : Type 1} → statement M
-probe-windows-spec = tie.close (tie.spec of-requires window-reach-requires words-requires returns)
+probe-windows-spec = tie.close (tie.spec layout-of-requires window-reach-requires words-requires returns)

@@ -41,8 +41,8 @@ loop-less c = search needs
 loop-again : tie.Need-loop-again Inv-loop μ-loop
 loop-again c = search needs
 
-of-requires : tie.Need-of-requires Inv-loop μ-loop
-of-requires c κs = search needs
+layout-of-requires : tie.Need-layout-of-requires Inv-loop μ-loop
+layout-of-requires c κs = search needs
 
 validate-requires : tie.Need-validate-requires Inv-loop μ-loop
 validate-requires c κs = search needs
@@ -75,7 +75,7 @@ replay-line-spec =
     add-i
     loop-less
     loop-again
-    of-requires
+    layout-of-requires
     validate-requires
     words-requires
     slice-aggregate-print-line

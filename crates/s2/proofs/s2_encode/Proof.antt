@@ -11,8 +11,8 @@ use Rattle.rows.specs.Rows.{arenaGuardRows}
 use Rattle.s2.proofs.s2_encode.Statement.{statement}
 use Rattle.s2.proofs.s2_encode.Tie as tie
 
-of-requires : tie.Need-of-requires
-of-requires c κs = search needs
+layout-of-requires : tie.Need-layout-of-requires
+layout-of-requires c κs = search needs
 
 encode-requires : tie.Need-encode-requires
 encode-requires c κs = search needs
@@ -28,7 +28,7 @@ returns c =
     let v = c .before .before .before .before in
     let a = v .before .before .before .before .before .before .args in
     let e = v .encode .ensures in
-    let l = v .before .of .ensures in
+    let l = v .before .layout-of .ensures in
     let outcome = e .answer ∙ ap (λ x. first (arenaGuardRows boardLimit (now (a .arena)) (now (a .base)) (now (a .sup)) x)) l in
     record {
       outcome = c .answer .ensures ∙ ap outcomeWords outcome;
@@ -37,4 +37,4 @@ returns c =
 
 pub s2-encode-spec : {M : Type 1} → statement M
 s2-encode-spec =
-    tie.close (tie.spec of-requires encode-requires answer-requires same-length returns)
+    tie.close (tie.spec layout-of-requires encode-requires answer-requires same-length returns)

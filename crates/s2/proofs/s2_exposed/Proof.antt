@@ -10,8 +10,8 @@ use Rattle.rows.specs.Rows.{refusals}
 use Rattle.s2.proofs.s2_exposed.Statement.{statement}
 use Rattle.s2.proofs.s2_exposed.Tie as tie
 
-of-requires : tie.Need-of-requires
-of-requires c κs = search needs
+layout-of-requires : tie.Need-layout-of-requires
+layout-of-requires c κs = search needs
 
 exposed-table-requires : tie.Need-exposed-table-requires
 exposed-table-requires c κs = search needs
@@ -39,7 +39,7 @@ returns c =
     c .told .ensures
     ∙ w .words .ensures
     ∙ ap (λ (x : Exposed). toldWords exposureValues (exposureOf x)) (sym (t .exposure .given .1))
-    ∙ ap (toldWords exposureValues) (e .exposed-table .ensures ∙ ap (λ l. after (first (refusals l)) (exposure l)) (e .before .of .ensures))
+    ∙ ap (toldWords exposureValues) (e .exposed-table .ensures ∙ ap (λ l. after (first (refusals l)) (exposure l)) (e .before .layout-of .ensures))
 
 returns-2 : tie.Need-returns-2
 returns-2 c =
@@ -47,13 +47,13 @@ returns-2 c =
     let e = t .before .before in
     c .answer .ensures
     ∙ ap (λ (x : Exposed). toldWords exposureValues (exposureOf x)) (sym (t .refusal .given .1))
-    ∙ ap (toldWords exposureValues) (e .exposed-table .ensures ∙ ap (λ l. after (first (refusals l)) (exposure l)) (e .before .of .ensures))
+    ∙ ap (toldWords exposureValues) (e .exposed-table .ensures ∙ ap (λ l. after (first (refusals l)) (exposure l)) (e .before .layout-of .ensures))
 
 pub s2-exposed-spec : {M : Type 1} → statement M
 s2-exposed-spec =
     tie.close
     (tie.spec
-    of-requires
+    layout-of-requires
     exposed-table-requires
     enum-known-exposure
     words-requires

@@ -4,12 +4,12 @@ use borrow.Author.Needs.{needs}
 use denote.Ref.{now}
 use Rattle.refusal.specs.Outcome.{outcomeWords}
 use Rattle.refusal.specs.Table.{first}
-use Rattle.update.specs.Step.{stepRows, leftBy}
 use Rattle.s2.proofs.s2_step.Statement.{statement}
 use Rattle.s2.proofs.s2_step.Tie as tie
+use Rattle.update.specs.Step.{stepRows, leftBy}
 
-of-requires : tie.Need-of-requires
-of-requires c κs = search needs
+layout-of-requires : tie.Need-layout-of-requires
+layout-of-requires c κs = search needs
 
 step-requires : tie.Need-step-requires
 step-requires c κs = search needs
@@ -25,7 +25,7 @@ returns c =
     let v = c .before .before .before .before in
     let a = v .before .before .before .before .before .before .args in
     let e = v .step .ensures in
-    let l = v .before .of .ensures in
+    let l = v .before .layout-of .ensures in
     let outcome = e .answer ∙ ap (λ x. first (stepRows x (now (a .base)) (now (a .sup)) (a .step) (now (a .arena)))) l in
     record {
       outcome = c .answer .ensures ∙ ap outcomeWords outcome;
@@ -36,4 +36,4 @@ returns c =
 
 pub s2-step-spec : {M : Type 1} → statement M
 s2-step-spec =
-    tie.close (tie.spec of-requires step-requires answer-requires same-length returns)
+    tie.close (tie.spec layout-of-requires step-requires answer-requires same-length returns)

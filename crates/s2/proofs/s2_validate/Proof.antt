@@ -7,8 +7,8 @@ use Rattle.rows.specs.Rows.{refusals}
 use Rattle.s2.proofs.s2_validate.Statement.{statement}
 use Rattle.s2.proofs.s2_validate.Tie as tie
 
-of-requires : tie.Need-of-requires
-of-requires c κs = search needs
+layout-of-requires : tie.Need-layout-of-requires
+layout-of-requires c κs = search needs
 
 validate-requires : tie.Need-validate-requires
 validate-requires c κs = search needs
@@ -19,7 +19,7 @@ answer-requires c κs = search needs
 returns : tie.Need-returns
 returns c =
     let v = c .before .before in
-    c .answer .ensures ∙ ap outcomeWords (v .validate .ensures ∙ ap (λ l. first (refusals l)) (v .before .of .ensures))
+    c .answer .ensures ∙ ap outcomeWords (v .validate .ensures ∙ ap (λ l. first (refusals l)) (v .before .layout-of .ensures))
 
 pub s2-validate-spec : {M : Type 1} → statement M
-s2-validate-spec = tie.close (tie.spec of-requires validate-requires answer-requires returns)
+s2-validate-spec = tie.close (tie.spec layout-of-requires validate-requires answer-requires returns)

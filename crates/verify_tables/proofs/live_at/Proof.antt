@@ -4,7 +4,7 @@ use mathlib.Core.List.{List}
 use mathlib.Core.Path.{_∙_, sym, ap}
 use borrow.Author.Needs.{needs}
 use borrow.Author.Tests.{ne-eqb}
-use Rattle.layout.specs.declared.Area.{Area}
+use Rattle.areas.specs.declared.Area.{Area}
 use Rattle.verify_rows.specs.Verifying.{windowAt, liveAt}
 use Rattle.verify_tables.proofs.live_at.Statement.{statement}
 use Rattle.verify_tables.proofs.live_at.Tie as tie

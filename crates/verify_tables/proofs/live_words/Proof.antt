@@ -5,7 +5,7 @@ use mathlib.Core.Path.{_≡_, refl}
 use lib.ListN.{length, drop}
 use borrow.Author.Needs.{needs}
 use denote.Ref.{now}
-use Rattle.layout.specs.declared.Area.{Area}
+use Rattle.areas.specs.declared.Area.{Area}
 use Rattle.refusal.proofs.Loop.{refuses, passes, ends, each-walk}
 use Rattle.refusal.specs.Table.{first, each}
 use Rattle.verify_rows.specs.Verifying.{liveRow}

@@ -3,8 +3,8 @@ use mathlib.Core.List.{List, flatMap}
 use mathlib.Core.Path.{_≡_, _∙_, refl, sym, ap}
 use borrow.Author.Needs.{needs}
 use denote.Ref.{now}
-use Rattle.layout.specs.Area.{liveAreasOf}
-use Rattle.layout.specs.declared.Area.{Area}
+use Rattle.areas.specs.Area.{liveAreasOf}
+use Rattle.areas.specs.declared.Area.{Area}
 use Rattle.refusal.proofs.First.{next, stop, last}
 use Rattle.refusal.specs.Outcome.{outcomeOf}
 use Rattle.refusal.specs.Table.{first, each}

@@ -8,8 +8,8 @@ use native.Mathlib.Omega.{arith}
 use lib.ListN.{length, getD, drop, drop-of-length-le}
 use lib.Seq.{drop-cons}
 use borrow.Author.Needs.{needs}
-use Rattle.layout.specs.Area.{areaHas}
-use Rattle.layout.specs.declared.Area.{Area}
+use Rattle.areas.specs.Area.{areaHas}
+use Rattle.areas.specs.declared.Area.{Area}
 use Rattle.verify_rows.specs.Verifying.{windowAt}
 use Rattle.verify_tables.proofs.window_at.Statement.{statement}
 use Rattle.verify_tables.proofs.window_at.Tie as tie

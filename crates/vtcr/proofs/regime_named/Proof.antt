@@ -5,8 +5,8 @@ use Rattle.granule.specs.Granule.{granuleNamed}
 use Rattle.granule.specs.StartLevel.{levelNamed}
 use Rattle.granule.specs.declared.GranuleNamed.the-variants.{Granule as IsGranule}
 use Rattle.granule.specs.declared.LevelNamed.the-variants.{Level}
-use Rattle.regime.specs.Codes.{sizeNamed}
-use Rattle.regime.specs.declared.SizeNamed.the-variants.{Size}
+use Rattle.sizes.specs.Codes.{sizeNamed}
+use Rattle.sizes.specs.declared.SizeNamed.the-variants.{Size}
 use Rattle.vtcr.specs.Vtcr.{regimeWith, regimeNamed}
 use Rattle.vtcr.specs.declared.DecodedVtcr.the-variants.{Regime}
 use Rattle.vtcr.specs.declared.VtcrFields.{VtcrFields}

@@ -5,8 +5,8 @@ use native.Mathlib.Nat.{mod-lt}
 use native.Mathlib.Omega.{arith}
 use borrow.Author.Needs.{needs}
 use Rattle.fields.specs.Bits.{bits}
-use Rattle.regime.proofs.Bounds.{vmids-range}
-use Rattle.regime.specs.Codes.{vmids}
+use Rattle.sizes.proofs.Bounds.{vmids-range}
+use Rattle.sizes.specs.Codes.{vmids}
 use Rattle.vttbr.proofs.vttbr_vmid.Statement.{statement}
 use Rattle.vttbr.proofs.vttbr_vmid.Tie as tie
 

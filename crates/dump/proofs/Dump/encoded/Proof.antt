@@ -3,17 +3,17 @@ use mathlib.Core.Path.{ap, subst, _∙_}
 use lib.ListN.{getD}
 use borrow.Author.Needs.{needs}
 use denote.Ref.{now}
-use Rattle.layout.specs.Layout.{layoutOf}
-use Rattle.refusal.specs.Outcome.{outcomeOf}
 use Rattle.dump.specs.Dump.{printedOf}
 use Rattle.dump.specs.Pieces.{pieces}
 use Rattle.dump.specs.declared.Answer.the-variants.{Refused}
 use Rattle.dump.proofs.Whole.{Encodes, words-pieces, refused-printed}
 use Rattle.dump.proofs.Dump.encoded.Statement.{statement}
 use Rattle.dump.proofs.Dump.encoded.Tie as tie
+use Rattle.layout.specs.Layout.{layoutOf}
+use Rattle.refusal.specs.Outcome.{outcomeOf}
 
-of-requires : tie.Need-of-requires
-of-requires c κs = search needs
+layout-of-requires : tie.Need-layout-of-requires
+layout-of-requires c κs = search needs
 
 slice-aggregate-encode-at : tie.Need-slice-aggregate-encode-at
 slice-aggregate-encode-at c = search needs
@@ -35,7 +35,7 @@ returns c =
     let a = o .before .before .before .args in
     let new = e .encode-at .last .1 .0 in
     let l = layoutOf (now (a .numbers)) in
-    let encodes = subst (λ x. Encodes x (now (a .base)) (now (a .sup)) new (outcomeOf (e .encode-at .result))) (o .of .ensures)
+    let encodes = subst (λ x. Encodes x (now (a .base)) (now (a .sup)) new (outcomeOf (e .encode-at .result))) (o .layout-of .ensures)
     (e .encode-at .ensures) in
     let answered = subst (λ v. Encodes l (now (a .base)) (now (a .sup)) new (outcomeOf v)) (c .enum-told .given .1) encodes in
     words-pieces l (now (a .base)) (now (a .sup)) new answered
@@ -55,7 +55,7 @@ returns-2 c =
     let a = o .before .before .before .args in
     let new = e .encode-at .last .1 .0 in
     let l = layoutOf (now (a .numbers)) in
-    let encodes = subst (λ x. Encodes x (now (a .base)) (now (a .sup)) new (outcomeOf (e .encode-at .result))) (o .of .ensures)
+    let encodes = subst (λ x. Encodes x (now (a .base)) (now (a .sup)) new (outcomeOf (e .encode-at .result))) (o .layout-of .ensures)
     (e .encode-at .ensures) in
     let answered = subst (λ x. Encodes l (now (a .base)) (now (a .sup)) new (outcomeOf x)) (v .verdict .given .1) encodes in
     ap (λ xs. pieces (Refused (getD xs 0 0)) new) (c .words3 .ensures)
@@ -65,7 +65,7 @@ pub encoded-spec : {M : Type 1} → statement M
 encoded-spec =
     tie.close
     (tie.spec
-    of-requires
+    layout-of-requires
     slice-aggregate-encode-at
     encode-at-requires
     enum-known-verdict
