@@ -4,9 +4,9 @@ use mathlib.Core.Bool.{Bool, true, false, _&&_, _||_}
 use mathlib.Core.List.{List, [], _∷_, _++_}
 use mathlib.Core.Path.{_≡_, refl, ap, _∙_}
 use lib.Dec.{eqb}
-use Rattle.edge.specs.Grant.{covers}
-use Rattle.edge.specs.declared.Grant.{Grant}
 use Rattle.authority.specs.Authority.{hasGrant}
+use Rattle.grant.specs.Grant.{covers}
+use Rattle.grant.specs.declared.Grant.{Grant}
 
 or-false : (a : Bool) → (a || false) ≡ a
 or-false true = refl

@@ -10,10 +10,10 @@ use lib.Dec.{eqb}
 use lib.ListN.{length, getD, set, take}
 use lib.Seq.{getD-set-same, getD-set-other, take-suc, take-all}
 use borrow.Author.Tests.{eqb-true, eqb-false, lt-ltb, le-ltb}
-use Rattle.edge.specs.declared.Grant.{Grant}
-use Rattle.lent_rows.specs.Larger.{larger}
 use Rattle.authority.specs.Widest.{widestAt, widestBy}
 use Rattle.authority.proofs.Widest.{more, elsewhere}
+use Rattle.grant.specs.declared.Grant.{Grant}
+use Rattle.map_entries.specs.Larger.{larger}
 
 module _ (frames : List (List ℕ)) (dom : ℕ) where
   module _ (m : ℕ) (g : Grant) (xs : List ℕ) where

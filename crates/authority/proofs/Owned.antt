@@ -6,8 +6,11 @@ use mathlib.Core.Logic.{_≢_}
 use mathlib.Core.Path.{_≡_, refl, sym, ap, _∙_}
 use native.Mathlib.Omega.{arith}
 use lib.Dec.{eqb}
-use Rattle.edge.specs.declared.Grant.{Grant}
+use Rattle.authority.specs.Authority.{hasGrant, reaches, ownerRows, reachRows}
+use Rattle.authority.specs.Widest.{widest, widestAt, asked}
+use Rattle.authority.proofs.Grants.{reading}
 use Rattle.fields.proofs.Named.{has-code}
+use Rattle.grant.specs.declared.Grant.{Grant}
 use Rattle.p2m.specs.Frame.{ownerOf}
 use Rattle.p2m.specs.declared.Owner.{Owner}
 use Rattle.p2m.specs.declared.Owner.the-variants.{Domain, Nobody}
@@ -20,9 +23,6 @@ use Rattle.refusal.specs.Outcome.{rowOf, refuse}
 use Rattle.refusal.specs.Table.{refused, first}
 use Rattle.refusal.specs.declared.Refusal.the-variants.{UnauthorizedMapping, WriteEscalation}
 use Rattle.refusal.specs.declared.Refusal.{Refusal}
-use Rattle.authority.specs.Authority.{hasGrant, reaches, ownerRows, reachRows}
-use Rattle.authority.specs.Widest.{widest, widestAt, asked}
-use Rattle.authority.proofs.Grants.{reading}
 
 -- w for writing, r and x what may be reached for reading and for writing: what may be reached is not refused
 quiet :

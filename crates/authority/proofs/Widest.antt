@@ -7,20 +7,20 @@ use mathlib.Core.Path.{_≡_, refl, sym, ap, _∙_}
 use lib.Dec.{eqb}
 use lib.ListN.{length, getD, List·getD-eq-default}
 use borrow.Author.Tests.{ne-eqb}
+use Rattle.authority.specs.Authority.{hasGrant, reaches}
+use Rattle.authority.specs.Widest.{widest, widestAt, covered, widestBy}
+use Rattle.authority.proofs.Grants.{or-assoc, granted-more}
 use Rattle.edge.specs.Edge.{ownedBy}
-use Rattle.edge.specs.Grant.{covers}
-use Rattle.edge.specs.declared.Grant.{Grant}
 use Rattle.fields.proofs.Default.{getD-inside}
 use Rattle.fields.specs.Named.{pick}
-use Rattle.lent_rows.specs.Larger.{larger}
+use Rattle.grant.specs.Grant.{covers}
+use Rattle.grant.specs.declared.Grant.{Grant}
+use Rattle.map_entries.specs.Larger.{larger}
 use Rattle.p2m.specs.Frame.{noFrame, ownerNamed, ownerOf}
 use Rattle.p2m.specs.declared.Owner.{Owner}
 use Rattle.p2m.specs.declared.Owner.the-variants.{Domain, Nobody}
 use Rattle.perm.specs.Perm.{permCode}
 use Rattle.perm.specs.declared.Perm.the-variants.{Rw}
-use Rattle.authority.specs.Authority.{hasGrant, reaches}
-use Rattle.authority.specs.Widest.{widest, widestAt, covered, widestBy}
-use Rattle.authority.proofs.Grants.{or-assoc, granted-more}
 
 -- what one of two allows is the wider of what each does
 wider : (r x c d : Bool) → widest (r || c) (x || d) ≡ larger (widest r x) (widest c d)

@@ -3,8 +3,8 @@ use Prim.Native.Nat.{ℕ}
 use mathlib.Core.Bool.{Bool, true, false, not, _&&_, _||_}
 use mathlib.Core.List.{List, [], _∷_, _++_}
 use lib.Dec.{eqb}
-use Rattle.edge.specs.Grant.{covers}
-use Rattle.edge.specs.declared.Grant.{Grant}
+use Rattle.grant.specs.Grant.{covers}
+use Rattle.grant.specs.declared.Grant.{Grant}
 use Rattle.p2m.specs.Frame.{ownerOf}
 use Rattle.p2m.specs.declared.Owner.{Owner}
 use Rattle.p2m.specs.declared.Owner.the-variants.{Domain, Nobody}

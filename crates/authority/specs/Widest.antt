@@ -4,9 +4,9 @@ use mathlib.Core.Bool.{Bool, true, false}
 use mathlib.Core.List.{List}
 use lib.Dec.{eqb}
 use Rattle.authority.specs.Authority.{reaches}
-use Rattle.edge.specs.Grant.{covers}
-use Rattle.edge.specs.declared.Grant.{Grant}
 use Rattle.fields.specs.Named.{pick}
+use Rattle.grant.specs.Grant.{covers}
+use Rattle.grant.specs.declared.Grant.{Grant}
 use Rattle.p2m.specs.Frame.{ownerOf}
 use Rattle.p2m.specs.declared.Owner.{Owner}
 use Rattle.p2m.specs.declared.Owner.the-variants.{Domain, Nobody}

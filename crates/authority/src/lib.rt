@@ -1,5 +1,5 @@
 // Whether a domain may reach every frame that a map maps (hv-s2's check.rs).
-use edge::Grant;
+use grant::Grant;
 use layout::Layout;
 use p2m::Owner;
 use perm::Entry;
@@ -14,11 +14,11 @@ ghost use lib.ListN.{length, getD};
 ghost use Rattle.authority.specs.Authority.{reachRows, authorityRows};
 ghost use Rattle.authority.specs.Widest.{widestAt, widestBy, asked};
 ghost use Rattle.edge.specs.Edge.{ownedBy};
-ghost use Rattle.edge.specs.Grant.{grantOf};
-ghost use Rattle.edge.specs.declared.Grant.{Grant};
 ghost use Rattle.fields.specs.Named.{pick};
+ghost use Rattle.grant.specs.Grant.{grantOf};
+ghost use Rattle.grant.specs.declared.Grant.{Grant};
 ghost use Rattle.layout.specs.Size.{entries};
-ghost use Rattle.lent_rows.specs.Larger.{larger};
+ghost use Rattle.map_entries.specs.Larger.{larger};
 ghost use Rattle.p2m.specs.Frame.{ownerNamed};
 ghost use Rattle.perm.specs.Perm.{permCode};
 ghost use Rattle.perm.specs.declared.Perm.the-variants.{Rw};
@@ -41,7 +41,7 @@ pub fn check_authorized_with(
         return readable;
     };
     // A map that maps nothing needs no frame looked up.
-    if lent_rows::largest(leaves) == 0 {
+    if map_entries::largest(leaves) == 0 {
         return Verdict::Accepted;
     }
     all_reached(dom, leaves, frames, grants)

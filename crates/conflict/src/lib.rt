@@ -19,7 +19,7 @@ pub fn no_conflict(base: &[u8], sup: &[u8]) -> Verdict
     }
     for m in 0..base.len() {
         if base[m] != 0 {
-            if lent_rows::entry_at(sup, m) != 0 {
+            if map_entries::entry_at(sup, m) != 0 {
                 return Verdict::Refused(Refusal::SpanConflict { mfn: m as u64 });
             }
         }

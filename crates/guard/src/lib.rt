@@ -120,5 +120,5 @@ fn unmapped_from(sup_frames: u64, sup: &[u8]) -> bool
         return true;
     }
     let from = sup_frames as usize;
-    lent_rows::largest(&sup[from..]) == 0
+    map_entries::largest(&sup[from..]) == 0
 }

@@ -9,8 +9,9 @@ use lib.ListN.{getD}
 use borrow.Author.Tests.{eqb-true, eq-eqb, not-false}
 use Rattle.authority.proofs.Owned.{allowed, unmapped, of-owner}
 use Rattle.authority.specs.Authority.{hasGrant, reaches, row23, ownerRows, reachRows, authorityRows}
-use Rattle.edge.specs.Grant.{covers}
-use Rattle.edge.specs.declared.Grant.{Grant}
+use Rattle.grant.specs.Grant.{covers}
+use Rattle.grant.specs.declared.Grant.{Grant}
+use Rattle.leafmap_theorems.specs.Authorized.{Granted, MayReach, Authorized, AcceptsAuthorized}
 use Rattle.p2m.specs.Frame.{ownerOf}
 use Rattle.p2m.specs.declared.Owner.{Owner}
 use Rattle.p2m.specs.declared.Owner.the-variants.{Domain, Nobody}
@@ -23,7 +24,6 @@ use Rattle.refusal.specs.Outcome.{rowOf}
 use Rattle.refusal.specs.Table.{accepted, first, eachFrom}
 use Rattle.refusal.specs.declared.Refusal.the-variants.{UnauthorizedMapping, WriteEscalation}
 use Rattle.rows.specs.Rows.{readRows}
-use Rattle.leafmap_theorems.specs.Authorized.{Granted, MayReach, Authorized, AcceptsAuthorized}
 
 -- a test of several parts holds where each does
 

@@ -4,10 +4,10 @@ use mathlib.Core.Path.{refl}
 use Rattle.authority.specs.Authority.{hasGrant, ownerRows, reachRows, authorityRows}
 use Rattle.conflict.specs.Conflict.{row17}
 use Rattle.edge.specs.Edge.{owns, counts}
-use Rattle.edge.specs.Grant.{covers}
 use Rattle.exact.specs.Exact.{row25, comparedRows}
 use Rattle.expected.specs.Expected.{lands, afterEdge, afterEdges}
 use Rattle.filling.specs.Filling.{putIn, placed, onward, placedAll, conflicts, started, filled}
+use Rattle.grant.specs.Grant.{covers}
 use Rattle.leafmap_theorems.specs.Examples.{LeafExamples}
 use Rattle.refusal.specs.Table.{first, eachFrom}
 use Rattle.rows.specs.Rows.{row2, row3, lengthRows, readRows}

@@ -6,7 +6,7 @@ use mathlib.Core.Logic.{_⊎_}
 use mathlib.Core.Path.{_≡_}
 use lib.ListN.{length, getD}
 use Rattle.authority.specs.Authority.{authorityRows}
-use Rattle.edge.specs.declared.Grant.{Grant}
+use Rattle.grant.specs.declared.Grant.{Grant}
 use Rattle.p2m.specs.Frame.{ownerOf}
 use Rattle.p2m.specs.declared.Owner.the-variants.{Domain}
 use Rattle.perm.specs.Perm.{permWrites, entryNamed}

@@ -5,9 +5,9 @@ use mathlib.Core.Path.{_≡_}
 use lib.ListN.{replicate}
 use Rattle.authority.specs.Authority.{authorityRows}
 use Rattle.edge.specs.Edge.{edgesOf}
-use Rattle.edge.specs.Grant.{grantOf}
 use Rattle.exact.specs.Exact.{exactRows}
 use Rattle.filling.specs.Filling.{Filling, filling, filled}
+use Rattle.grant.specs.Grant.{grantOf}
 use Rattle.p2m.specs.declared.Span.{Span}
 use Rattle.p2m.specs.declared.Span.the-variants.{Base, Super}
 use Rattle.refusal.specs.Table.{row, Outcome, accepted, refused, first}

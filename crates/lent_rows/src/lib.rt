@@ -3,8 +3,6 @@ use layout::Layout;
 use refusal::Refusal;
 use refusal::Verdict;
 ghost use mathlib.Core.Path.{_≡_};
-ghost use lib.ListN.{getD};
-ghost use Rattle.lent_rows.specs.Larger.{largest};
 ghost use Rattle.refusal.specs.Outcome.{outcomeOf};
 ghost use Rattle.refusal.specs.Table.{first, eachFrom};
 ghost use Rattle.rows.specs.Rows.{row1, row2, row3, readRows, lengthRows, mapRows};
@@ -33,7 +31,7 @@ pub fn map_len(map: &[u8]) -> Verdict
 pub fn map_codes(code: u64, map: &[u8]) -> Verdict
     ensures { λ r. ⌜ outcomeOf r ≡ first (eachFrom (row3 code) 0 (now (map .entry))) ⌝ }
 {
-    if largest(map) <= 3 {
+    if map_entries::largest(map) <= 3 {
         return Verdict::Accepted;
     }
     for i in 0..map.len() {
@@ -45,19 +43,6 @@ pub fn map_codes(code: u64, map: &[u8]) -> Verdict
         }
     }
     Verdict::Accepted
-}
-
-// The largest byte of a map, 0 where it has none.
-pub fn largest(map: &[u8]) -> u8
-    ensures { λ r. ⌜ r ≡ largest (now (map .entry)) ⌝ }
-{
-    let mut most = 0;
-    for i in 0..map.len() {
-        if most < map[i] {
-            most = map[i];
-        }
-    }
-    most
 }
 
 // Rows 2 and 3, of one map that is read.
@@ -95,14 +80,4 @@ pub fn maps(base: &[u8], sup: &[u8]) -> Verdict
         return codes;
     };
     map_codes(2, sup)
-}
-
-// The entry of a frame, 0 past the map.
-pub fn entry_at(map: &[u8], m: usize) -> u8
-    ensures { λ r. ⌜ r ≡ getD (now (map .entry)) m 0 ⌝ }
-{
-    if map.len() <= m {
-        return 0;
-    }
-    map[m]
 }

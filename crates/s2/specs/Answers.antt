@@ -5,11 +5,11 @@ use mathlib.Core.Path.{_≡_}
 use Rattle.arena.specs.Over.{Over}
 use Rattle.authority.specs.Authority.{authorityRows}
 use Rattle.edge.specs.declared.Edge.{Edge}
-use Rattle.edge.specs.Grant.{grantOf}
 use Rattle.encode.specs.Encoding.{left}
 use Rattle.exact.specs.Exact.{exactRows}
 use Rattle.exposed.specs.Exposed.{exposure, exposureValues}
 use Rattle.filling.specs.Filling.{Filling, filled}
+use Rattle.grant.specs.Grant.{grantOf}
 use Rattle.layout.specs.Layout.{layoutOf}
 use Rattle.layout.specs.Size.{boardLimit}
 use Rattle.p2m.specs.Frame.{spanNamed}

@@ -16,7 +16,7 @@ pub fn target_word(base: &[u8], sup: &[u8], l: Layout, i: usize) -> u64
         0 => l1_word(l, j),
         1 => image_word(l, j),
         2 => data_word(l, j),
-        3 => arena::page_word(l.data_pa_base, j as u32, lent_rows::entry_at(base, j)),
+        3 => arena::page_word(l.data_pa_base, j as u32, map_entries::entry_at(base, j)),
         4 => super_word(sup, l, j),
         5 => device_word(l.device_window(), j),
         _ => 0,
@@ -87,7 +87,7 @@ fn super_word(sup: &[u8], l: Layout, j: usize) -> u64
         l.sup_pa_base,
         m as u32,
         l.sup_wx_exempt,
-        lent_rows::entry_at(sup, m),
+        map_entries::entry_at(sup, m),
     )
 }
 

@@ -54,5 +54,5 @@ fn verify_words(arena: &[u64], base: &[u8], sup: &[u8], l: Layout) -> Verdict
     let Verdict::Accepted = supers else {
         return supers;
     };
-    verify_leaves::verify_device(arena, 6, l.device_window())
+    verify_devices::verify_device(arena, 6, l.device_window())
 }

@@ -1,21 +1,12 @@
 -- The emitted word has no row: it is read as what is wanted.
-use Prim.Native.Nat.{ℕ, _+_, _-_, _≤_}
-use mathlib.Core.Bool.{Bool, true, false}
+use Prim.Native.Nat.{ℕ}
+use mathlib.Core.Bool.{Bool, false}
 use mathlib.Core.List.{[]}
-use mathlib.Core.Path.{_≡_, refl, ap, _∙_}
-use native.Mathlib.Omega.{arith}
-use lib.Dec.{ltb}
-use borrow.Author.Tests.{ltb-true, ltb-false, lt-ltb, le-ltb}
-use Rattle.arena.specs.Word.{pageTo, blockTo, deviceTo, leafFor}
-use Rattle.decode.proofs.Emitted.{emitted-decodes}
-use Rattle.decode.specs.Decoded.{decodedDevice}
-use Rattle.decode.specs.declared.DecodedBlock.the-variants.{Device, Nothing}
+use mathlib.Core.Path.{_≡_, ap, _∙_}
+use Rattle.arena.specs.Word.{pageTo, blockTo, leafFor}
 use Rattle.desc.specs.Descriptor.{pageAddress, blockAddress}
-use Rattle.fields.specs.Named.{pick}
-use Rattle.layout.specs.declared.Window.{Window}
-use Rattle.verify_rows.proofs.Read.{held-block, page-read, block-read, no-leaf-row, no-block-row}
-use Rattle.verify_rows.specs.Verifying.{slotAddress, windowHolds, wantedBlock}
-use Rattle.verify_rows.specs.Word.{readPage, readBlock, wantedLeaf, leafRow, blockRow}
+use Rattle.verify_rows.proofs.Read.{page-read, block-read, no-leaf-row}
+use Rattle.verify_rows.specs.Word.{readPage, readBlock, wantedLeaf, leafRow}
 
 pub page-none :
     (t j d m e x : ℕ) →
@@ -26,22 +17,3 @@ pub block-none :
     (t j d m e x : ℕ) (exempt : Bool) →
     d ≡ leafFor e (blockTo x exempt) → leafRow t j d m (readBlock d) (wantedLeaf e (blockAddress x) exempt) ≡ []
 block-none t j d m e x exempt q = no-leaf-row t j d m _ _ (ap readBlock q ∙ block-read e x exempt)
-
-device-read :
-    (inside : Bool) (x : ℕ) →
-    decodedDevice (pick inside (deviceTo x) 0) ≡ pick inside (Device (record { pa = blockAddress x; xn = true })) Nothing
-device-read true x = emitted-decodes .device (blockAddress x) (held-block x)
-device-read false x = refl
-
-pub device-none :
-    (t d j : ℕ) (w : Window) →
-    d ≡ pick (windowHolds w (slotAddress w j)) (deviceTo (slotAddress w j)) 0 → blockRow t j d (wantedBlock w j) ≡ []
-device-none t d j w q = no-block-row t j d _ (ap decodedDevice q ∙ device-read (windowHolds w (slotAddress w j)) (slotAddress w j))
-
--- what lies within a length of a base is less than that far from it
-pub distance : (a base len : ℕ) → base ≤ a → ltb (a - base) len ≡ ltb a (base + len)
-distance a base len h = go (ltb a (base + len)) refl
-  where
-    go : (t : Bool) → ltb a (base + len) ≡ t → ltb (a - base) len ≡ t
-    go true e = lt-ltb (a - base) len (omega (arith, ltb-true a (base + len) e))
-    go false e = le-ltb (a - base) len (omega (arith, ltb-false a (base + len) e))

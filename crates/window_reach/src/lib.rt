@@ -92,7 +92,7 @@ fn entry_of(map: &[u8], w: Window, ipa: u64, piece: u64) -> u8
     requires { ⌜ 0 < piece ⌝ }
     ensures { λ r. ⌜ r ≡ getD (now (map .entry)) ((ipa - w .ipa) / piece) 0 ⌝ }
 {
-    lent_rows::entry_at(map, ((ipa - w.ipa) / piece) as usize)
+    map_entries::entry_at(map, ((ipa - w.ipa) / piece) as usize)
 }
 
 // The same offset from the output base.

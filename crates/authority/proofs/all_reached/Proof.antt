@@ -5,16 +5,16 @@ use mathlib.Core.Path.{_≡_, refl, sym, _∙_}
 use lib.ListN.{getD, drop}
 use borrow.Author.Needs.{needs}
 use denote.Ref.{now}
-use Rattle.edge.specs.Grant.{grantOf}
+use Rattle.authority.specs.Authority.{reachRows}
+use Rattle.authority.proofs.Owned.{within}
+use Rattle.authority.proofs.all_reached.Statement.{statement}
+use Rattle.authority.proofs.all_reached.Tie as tie
+use Rattle.grant.specs.Grant.{grantOf}
 use Rattle.refusal.proofs.First.{next, stop}
 use Rattle.refusal.proofs.None.{accept, from-nowhere}
 use Rattle.refusal.proofs.Parts.{from-at, from-end}
 use Rattle.refusal.specs.Outcome.{outcomeOf}
 use Rattle.refusal.specs.Table.{first, eachFrom}
-use Rattle.authority.specs.Authority.{reachRows}
-use Rattle.authority.proofs.Owned.{within}
-use Rattle.authority.proofs.all_reached.Statement.{statement}
-use Rattle.authority.proofs.all_reached.Tie as tie
 
 abbrev Inv-loop : tie.InvT-loop
 Inv-loop dom leaves frames grants widest m₀ m-end m =

@@ -6,18 +6,18 @@ use native.Mathlib.Omega.{arith}
 use lib.ListN.{getD}
 use borrow.Author.Needs.{needs}
 use denote.Ref.{now}
-use Rattle.edge.specs.Grant.{grantOf}
-use Rattle.lent_rows.proofs.Larger.{at-most}
+use Rattle.authority.specs.Authority.{reachRows, authorityRows}
+use Rattle.authority.proofs.Owned.{unmapped}
+use Rattle.authority.proofs.check_authorized_with.Statement.{statement}
+use Rattle.authority.proofs.check_authorized_with.Tie as tie
+use Rattle.grant.specs.Grant.{grantOf}
 use Rattle.lent_rows.proofs.Read.{read-length}
+use Rattle.map_entries.proofs.Larger.{at-most}
 use Rattle.perm.specs.Perm.{entryNamed}
 use Rattle.refusal.proofs.First.{next, stop, last}
 use Rattle.refusal.proofs.None.{accept, from-nowhere}
 use Rattle.refusal.specs.Outcome.{outcomeOf}
 use Rattle.refusal.specs.declared.Verdict.the-variants.{Accepted}
-use Rattle.authority.specs.Authority.{reachRows, authorityRows}
-use Rattle.authority.proofs.Owned.{unmapped}
-use Rattle.authority.proofs.check_authorized_with.Statement.{statement}
-use Rattle.authority.proofs.check_authorized_with.Tie as tie
 
 read-map-requires : tie.Need-read-map-requires
 read-map-requires c κs = search needs

@@ -6,13 +6,13 @@ use native.Mathlib.Omega.{arith}
 use lib.ListN.{length, getD, length-map, List·getD-map}
 use borrow.Author.Needs.{needs}
 use denote.Ref.{now}
-use Rattle.edge.specs.Grant.{grantOf}
-use Rattle.layout.specs.Size.{entries}
-use Rattle.lent_rows.specs.Larger.{larger}
 use Rattle.authority.specs.Widest.{widestBy}
 use Rattle.authority.proofs.Noted.{Noted, one-noted, all-noted}
 use Rattle.authority.proofs.widest_entries.Statement.{statement}
 use Rattle.authority.proofs.widest_entries.Tie as tie
+use Rattle.grant.specs.Grant.{grantOf}
+use Rattle.layout.specs.Size.{entries}
+use Rattle.map_entries.specs.Larger.{larger}
 
 abbrev Inv-loop : tie.InvT-loop
 Inv-loop dom count frames grants widest₀ i₀ i-end widest i =

@@ -6,10 +6,10 @@ use lib.ListN.{length, take, drop, getD, List·getD-eq-default}
 use borrow.Author.Needs.{needs}
 use borrow.Author.Tests.{eqb-true}
 use denote.Ref.{now}
-use Rattle.lent_rows.proofs.Larger.{at-most}
 use Rattle.guard.proofs.Unmapped.{no-row14, zero-from}
 use Rattle.guard.proofs.unmapped_from.Statement.{statement}
 use Rattle.guard.proofs.unmapped_from.Tie as tie
+use Rattle.map_entries.proofs.Larger.{at-most}
 
 returns : tie.Need-returns
 returns c =

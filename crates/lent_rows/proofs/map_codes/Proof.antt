@@ -6,13 +6,13 @@ use lib.ListN.{drop}
 use borrow.Author.Needs.{needs}
 use borrow.Author.Tests.{lt-ltb, le-ltb}
 use denote.Ref.{now}
+use Rattle.lent_rows.proofs.Codes.{all-codes}
+use Rattle.lent_rows.proofs.map_codes.Statement.{statement}
+use Rattle.lent_rows.proofs.map_codes.Tie as tie
+use Rattle.map_entries.proofs.Larger.{at-most}
 use Rattle.refusal.proofs.Parts.{from-at, from-end}
 use Rattle.refusal.specs.Table.{first, eachFrom}
 use Rattle.rows.specs.Rows.{row3}
-use Rattle.lent_rows.proofs.Codes.{all-codes}
-use Rattle.lent_rows.proofs.Larger.{at-most}
-use Rattle.lent_rows.proofs.map_codes.Statement.{statement}
-use Rattle.lent_rows.proofs.map_codes.Tie as tie
 
 abbrev Inv-loop : tie.InvT-loop
 Inv-loop code map i₀ i-end i = first (eachFrom (row3 code) 0 map) ≡ first (eachFrom (row3 code) i (drop i map))

@@ -6,10 +6,10 @@ use denote.Ref.{now}
 use Rattle.layout.specs.Size.{entries}
 use Rattle.refusal.proofs.Loop.{refuses, passes, ends}
 use Rattle.refusal.specs.Table.{first, each}
+use Rattle.verify_devices.proofs.verify_device.Statement.{statement}
+use Rattle.verify_devices.proofs.verify_device.Tie as tie
 use Rattle.verify_rows.proofs.Range.{rest, rest-walk, passed-over}
 use Rattle.verify_rows.specs.Verifying.{deviceRow, deviceRows}
-use Rattle.verify_leaves.proofs.verify_device.Statement.{statement}
-use Rattle.verify_leaves.proofs.verify_device.Tie as tie
 
 abbrev Inv-loop : tie.InvT-loop
 Inv-loop arena table w j₀ j = first (deviceRows arena table w) ≡ first (each (deviceRow arena table w) (rest entries j))

@@ -3,8 +3,8 @@ use mathlib.Core.Path.{_≡_}
 use native.Mathlib.Omega.{arith}
 use Rattle.desc.specs.Descriptor.{blockAddress}
 use borrow.Author.Needs.{needs}
-use Rattle.verify_leaves.proofs.wanted_block.Statement.{statement}
-use Rattle.verify_leaves.proofs.wanted_block.Tie as tie
+use Rattle.verify_devices.proofs.wanted_block.Statement.{statement}
+use Rattle.verify_devices.proofs.wanted_block.Tie as tie
 
 covered-requires : tie.Need-covered-requires
 covered-requires c κs = search needs

@@ -1,8 +1,8 @@
 -- `emitted_block` meets its contract: a block where the window contains the address, else no word.
 use native.Mathlib.Omega.{arith}
 use borrow.Author.Needs.{needs}
-use Rattle.verify_leaves.proofs.emitted_block.Statement.{statement}
-use Rattle.verify_leaves.proofs.emitted_block.Tie as tie
+use Rattle.verify_devices.proofs.emitted_block.Statement.{statement}
+use Rattle.verify_devices.proofs.emitted_block.Tie as tie
 
 covered-requires : tie.Need-covered-requires
 covered-requires c κs = search needs

@@ -8,10 +8,10 @@ use borrow.Author.Needs.{needs}
 use denote.Ref.{now}
 use Rattle.fields.proofs.Below.{below-next}
 use Rattle.layout.specs.Size.{entries}
+use Rattle.verify_devices.proofs.Emitted.{device-none}
+use Rattle.verify_devices.proofs.past_devices.Statement.{statement}
+use Rattle.verify_devices.proofs.past_devices.Tie as tie
 use Rattle.verify_rows.specs.Verifying.{deviceRow}
-use Rattle.verify_leaves.proofs.Emitted.{device-none}
-use Rattle.verify_leaves.proofs.past_devices.Statement.{statement}
-use Rattle.verify_leaves.proofs.past_devices.Tie as tie
 
 abbrev Inv-loop : tie.InvT-loop
 Inv-loop arena table w from j₀ j = (j ≤ entries) × ((k : ℕ) → k < j → deviceRow arena table w k ≡ [])

@@ -5,7 +5,7 @@ use mathlib.Core.List.{List}
 use lib.Dec.{eqb}
 use lib.ListN.{getD}
 use Rattle.fields.specs.Numbers.{nonzero}
-use Rattle.edge.specs.declared.Grant.{Grant}
+use Rattle.grant.specs.declared.Grant.{Grant}
 
 -- a grant is grantor, grantee, frame, writable
 abbrev pub grantOf : List ℕ → Grant

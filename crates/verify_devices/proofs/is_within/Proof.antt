@@ -1,8 +1,8 @@
 -- `is_within` meets its contract: past the base, the distance from it tells.
 use borrow.Author.Tests.{lt-leb, le-leb}
-use Rattle.verify_leaves.proofs.Emitted.{distance}
-use Rattle.verify_leaves.proofs.is_within.Statement.{statement}
-use Rattle.verify_leaves.proofs.is_within.Tie as tie
+use Rattle.verify_devices.proofs.Emitted.{distance}
+use Rattle.verify_devices.proofs.is_within.Statement.{statement}
+use Rattle.verify_devices.proofs.is_within.Tie as tie
 
 returns : tie.Need-returns
 returns c = rw (lt-leb _ _ (c .if1 .taken))

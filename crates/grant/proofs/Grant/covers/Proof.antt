@@ -1,8 +1,8 @@
 -- `Grant::covers` meets its contract: each test is one part of the definition.
 use borrow.Author.Tests.{eq-eqb, ne-eqb}
-use Rattle.edge.specs.Grant.{covers}
-use Rattle.edge.proofs.Grant.covers.Statement.{statement}
-use Rattle.edge.proofs.Grant.covers.Tie as tie
+use Rattle.grant.specs.Grant.{covers}
+use Rattle.grant.proofs.Grant.covers.Statement.{statement}
+use Rattle.grant.proofs.Grant.covers.Tie as tie
 
 returns : tie.Need-returns
 unfolding covers

@@ -9,7 +9,7 @@ use lib.Dec.{ltb}
 use lib.ListN.{length, getD, drop, drop-of-length-le}
 use lib.Seq.{drop-cons}
 use borrow.Author.Tests.{ltb-true, ltb-false, lt-ltb, le-ltb}
-use Rattle.lent_rows.specs.Larger.{larger, largest}
+use Rattle.map_entries.specs.Larger.{larger, largest}
 
 above-first : (a b : ℕ) → a ≤ larger a b
 above-first a b = go (ltb a b) refl

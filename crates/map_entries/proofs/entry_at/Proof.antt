@@ -3,8 +3,8 @@ use mathlib.Core.Path.{sym}
 use lib.ListN.{List·getD-eq-default}
 use borrow.Author.Needs.{needs}
 use denote.Ref.{now}
-use Rattle.lent_rows.proofs.entry_at.Statement.{statement}
-use Rattle.lent_rows.proofs.entry_at.Tie as tie
+use Rattle.map_entries.proofs.entry_at.Statement.{statement}
+use Rattle.map_entries.proofs.entry_at.Tie as tie
 
 returns : tie.Need-returns
 returns c = sym (List·getD-eq-default (now (c .before .args .map)) 0 (c .if1 .taken))

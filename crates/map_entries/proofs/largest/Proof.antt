@@ -5,10 +5,10 @@ use mathlib.Core.Path.{_≡_, sym, _∙_}
 use lib.ListN.{drop}
 use borrow.Author.Needs.{needs}
 use denote.Ref.{now}
-use Rattle.lent_rows.proofs.Larger.{zero-larger, taken, kept, none-left}
-use Rattle.lent_rows.specs.Larger.{larger, largest as largestOf}
-use Rattle.lent_rows.proofs.largest.Statement.{statement}
-use Rattle.lent_rows.proofs.largest.Tie as tie
+use Rattle.map_entries.proofs.Larger.{zero-larger, taken, kept, none-left}
+use Rattle.map_entries.specs.Larger.{larger, largest as largestOf}
+use Rattle.map_entries.proofs.largest.Statement.{statement}
+use Rattle.map_entries.proofs.largest.Tie as tie
 
 abbrev Inv-loop : tie.InvT-loop
 Inv-loop map most₀ i₀ i-end most i = largestOf map ≡ larger most (largestOf (drop i map))
