@@ -25,7 +25,7 @@ run: ## 4 min ## proves the program and what it needs, builds it and runs it on 
 
 # rt ci begins by removing target/: run first, what it proved serves the rest. Its verdict comes last. It waits for each batch of jobs to
 # end: with four on two cores, none idles while the longest of a batch goes on.
-test: ## 26 min ## the gate: every proof and edit from nothing, then compare, arm-short, board, scenes, header and pages; its last line is rt's
+test: ## 20 min ## the gate: every proof and edit from nothing, then compare, arm-short, board, scenes, header and pages; its last line is rt's
 	@rt fmt --check
 	@echo "rt ci: $$(awk -f tools/needed.awk crates.txt) crates to prove, $$(ls crates/*/must-fail/*.edit | wc -l) edits to be refused"
 	@RT_JOBS=$${RT_JOBS:-4} tools/progress.sh target/ci.log rt ci
@@ -46,7 +46,7 @@ NUMBERED = crates/layout/src/lib.rt crates/update/src/lib.rt crates/p2m/src/lib.
 header: ## 1 s ## holds the C header to the exported calls and numbers
 	@mkdir -p target
 	@$(CC) -std=c99 -Wall -Wextra -Werror -fsyntax-only -x c include/dervhalt_s2.h
-	@awk -f tools/prototypes.awk crates/layout/src/lib.rt crates/numbers/src/lib.rt crates/edge/src/lib.rt crates/s2/src/lib.rt >target/exported
+	@awk -f tools/prototypes.awk crates/layout/src/lib.rt crates/layout_numbers/src/lib.rt crates/edge/src/lib.rt crates/s2/src/lib.rt >target/exported
 	@$(CC) -E -P include/dervhalt_s2.h | tr '\n' ' ' | \
 	    sed -e :field -e 's/\(struct s2_[a-z]* {[^;}]*\);/\1,/' -e tfield | tr ';' '\n' | \
 	    sed 's/  */ /g; s/^ //; s/( /(/g' | grep ' s2_' >target/declared

@@ -1,5 +1,5 @@
 #!/bin/sh
-# Holds what the pages say to the files: every path and name is there; the definitions that must be believed, the edits and the described
+# Holds what the pages say to the files: every path, edit and name is there; the definitions that must be believed, the edits and the described
 # calls are as many; so much stack is taken; and the board's register has its value. And make help lists every target that is no step of another.
 set -eu
 cd "$(dirname "$0")/.."
@@ -21,36 +21,49 @@ grep -ohP '`\K[a-z]+(-[A-Za-z0-9]+)+(?=`)' README.md docs/*.md | sort -u | grep 
         grep -rqF --exclude-dir=target -- "$name" crates oracle arm board/dervhalt-s2/Cargo.toml board/dervhalt-s2/src || { echo "nothing is called $name, which a page names"; exit 1; }
     done
 
+# A name that a path stands behind is there.
+awk -f tools/named.awk $pages
+
+# Each crate has its layer.
+sed -n 's/^\([a-z0-9_]*\):.*/\1/p' crates.txt | while read -r crate; do
+    says crates/README.md "\`$crate\`"
+done
+
 believed() {
     awk -f tools/believed.awk "$@" | tail -1
 }
 calls=crates/s2/specs/Answers.antt demand2=crates/demand_2/specs/Demand2.antt demand3=crates/demand_3/specs/Demand3.antt dump=crates/dump/specs/Dump.antt
 for statement in $calls $demand2 $demand3 $dump; do
-    says docs/TRUST.md "$(believed $statement)"
+    says docs/TRUST.md "| [$statement](../$statement) | $(believed $statement) |"
 done
-says docs/TRUST.md "$(believed $calls $demand2 $demand3 $dump)"
+says docs/TRUST.md "| all four | | $(believed $calls $demand2 $demand3 $dump) |"
 
-# Each subject's files have as many lines, and all of them together are what the four statements rest on.
-awk -F ' *[|] *' '$3 ~ /^`crates\/.*antt`$/ { gsub(/[`,]/, "", $3); print $4, $3 }' docs/TRUST.md | while read -r lines files; do
+# Each subject's files have as many lines, and together they are the files that the four statements rest on.
+subjects() {
+    awk -F ' *[|] *' '$3 ~ /^`crates\/.*antt`$/ { gsub(/[`,]/, "", $3); print $4, $3 }' docs/TRUST.md
+}
+subjects | while read -r lines files; do
     [ "$(cat $files | wc -l)" = "$lines" ] || { echo "docs/TRUST.md has another count of lines of $files"; exit 1; }
 done
-rest() {
-    awk -f tools/believed.awk $calls $demand2 $demand3 $dump | sed -n 's/^[0-9]*\t//p' | sort
-}
-awk -F ' *[|] *' '$3 ~ /^`crates\/.*antt`$/ { gsub(/[`,]/, "", $3); gsub(/ /, "\n", $3); print $3 }' docs/TRUST.md | sort >target/subjects
-rest | diff - target/subjects >target/unread || { echo "docs/TRUST.md does not list, or lists beside them:"; cat target/unread; exit 1; }
+listed=$(subjects | cut -d ' ' -f 2- | tr ' ' '\n' | sort)
+[ "$(awk -f tools/believed.awk $calls $demand2 $demand3 $dump | grep -o 'crates/.*' | sort)" = "$listed" ] ||
+    { echo "docs/TRUST.md lists other files than the four statements rest on"; exit 1; }
 
-# An edit that a page names is in the folder of the path before it.
-grep -ohP 'crates/[a-z0-9_]+/must-fail/[a-z0-9_]+\.edit(, [a-z0-9_]+\.edit)*' docs/*.md | sort -u | while read -r named; do
+# Each edit that a page names is in the folder of the path before it.
+edits() {
+    grep -ohP 'crates/[a-z0-9_]+/must-fail/[a-z0-9_]+\.edit(, [a-z0-9_]+\.edit)*' docs/*.md
+}
+edits | sort -u | while read -r named; do
     folder=${named%%/must-fail/*}/must-fail
     for edit in $(echo "${named#"$folder"/}" | tr -d ,); do
         [ -e "$folder/$edit" ] || { echo "no $folder/$edit, which a page names"; exit 1; }
     done
 done
+[ "$(edits | grep -o '\.edit' | wc -l)" = "$(grep -oh '[a-z0-9_]\.edit' docs/*.md | wc -l)" ] || { echo "a page names an edit without its folder"; exit 1; }
 
 for edits in crates/*/must-fail; do
     crate=${edits%/must-fail}
-    says docs/SABOTAGE.md "\`${crate#crates/}\` $(ls "$edits" | wc -l)"
+    grep -qE "\`${crate#crates/}\` $(ls "$edits" | wc -l)(,| \|)" docs/SABOTAGE.md || { echo "docs/SABOTAGE.md has another count of the edits of $crate"; exit 1; }
 done
 says docs/SABOTAGE.md "There are $(ls crates/*/must-fail/*.edit | wc -l), in $(ls -d crates/*/must-fail | wc -l) crates"
 

@@ -1,7 +1,7 @@
 # Prints the C prototype of each exported function of the Rattle files, one to a line, as a C preprocessor leaves it, and each struct
 # that they may lend, with commas in the place of semicolons. A layout is lent as its numbers: the struct's fields stand in the order of
 # the places that `layout_of` reads them at.
-# awk -f tools/prototypes.awk crates/layout/src/lib.rt crates/numbers/src/lib.rt crates/edge/src/lib.rt crates/s2/src/lib.rt
+# awk -f tools/prototypes.awk crates/layout/src/lib.rt crates/layout_numbers/src/lib.rt crates/edge/src/lib.rt crates/s2/src/lib.rt
 
 /^    pub const [A-Z_]+: (usize|u64) = (0x)?[0-9A-F]+;/ {
     sub(/:/, "", $3)

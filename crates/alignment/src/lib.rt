@@ -1,4 +1,4 @@
-// Rows 4, 6 and 7 of document 01's table, each over its list: what must be whole pages or blocks (hv-s2's arm64.rs, `validate`).
+// Rows 4, 6 and 7 of document 01's table, each over its list: lengths, bases and table addresses (hv-s2's arm64.rs, `validate`).
 use layout::Check;
 use layout::Layout;
 use layout::Table;

@@ -1,9 +1,9 @@
-// What has a word in table 1 (hv-s2's arm64.rs).
+// The areas of a layout, in table 1 (hv-s2's arm64.rs).
 use layout::Layout;
 ghost use mathlib.Core.Path.{_≡_};
 ghost use Rattle.areas.specs.Area.{areasOf, liveAreasOf, areaSlot, areaHas};
 
-// If it is present, its first address has the slot, and the word names its table.
+// What has a word in table 1, if it is present: its first address has the slot, and the word names its table.
 pub struct Area {
     pub present: bool,
     pub ipa: u64,

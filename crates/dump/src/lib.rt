@@ -43,7 +43,7 @@ impl Dump {
         ensures { λ r. ⌜ pieces (r .answer) (r .words) ≡ printedOf (scene (now (numbers .entry)) (now (base .entry)) (now (sup .entry))) ⌝ }
     {
         let mut words = [0; Layout::ARENA_LEN];
-        let l = numbers::layout_of(numbers);
+        let l = layout_numbers::layout_of(numbers);
         let verdict = encode::encode_at(Layout::DUMP_LIMIT, &mut words, base, sup, l);
         let Verdict::Refused(refusal) = verdict else {
             return Self {

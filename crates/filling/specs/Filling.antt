@@ -1,4 +1,4 @@
--- Filling, by document 01 ("Leaf maps"): what edges leave in both maps, and rows 15 to 17 of its table.
+-- Filling, by document 01 ("Leaf maps"): what edges leave in both maps, and rows 15 and 16 of its table, with 17 last.
 use Prim.Native.Nat.{ℕ}
 use mathlib.Core.List.{List, [], _∷_, foldl}
 use lib.Dec.{ltb}

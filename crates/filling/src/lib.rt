@@ -9,7 +9,7 @@ ghost use lib.ListN.{length, replicate};
 ghost use Rattle.filling.specs.Filling.{filling, put, row16, putIn, placed, placedNext, onward, conflicts, started};
 ghost use Rattle.filling.specs.Progress.{fillingAt, unlessPast};
 ghost use Rattle.refusal.specs.Outcome.{outcomeOf};
-ghost use Rattle.refusal.specs.Table.{accepted, refused, first, eachFrom};
+ghost use Rattle.refusal.specs.Table.{accepted, refused};
 
 // How far a filling has come. A refusal is told by `finish`; until then it is a few bytes, which are handed from edge to edge.
 pub enum Progress {

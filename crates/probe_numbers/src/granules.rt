@@ -1,4 +1,4 @@
-// granule, and the sizes of regime, by numbers: each by the code of its field.
+// granule and sizes by numbers: each by the code of its field.
 use granule::Granule;
 use granule::GranuleNamed;
 use granule::LevelNamed;

@@ -12,7 +12,8 @@ use sizes::SizeNamed;
 use sizes::VmidBits;
 use vtcr::Vtcr;
 ghost use mathlib.Core.Path.{_≡_};
-ghost use Rattle.probe_numbers.specs.Regimes.{regimeByCodes, isDetermined, determined, isEncoded, encodedValue, numbersOf, regimeAnswer};
+ghost use Rattle.probe_numbers.specs.Regimes.{regimeByCodes, isDetermined, determined, isEncoded, encodedValue, numbersOf};
+ghost use Rattle.probe_numbers.specs.Regimes.{regimeAnswer};
 
 enum RegimeNamed {
     Regime(Stage2Regime),

@@ -14,5 +14,5 @@ pub extern "C" fn probe_windows(
 )
     ensures { λ _. ⌜ now (out .exit) ≡ grantedAnswer (now (numbers .entry)) (now (base .entry)) (now (sup .entry)) ipa ⌝ }
 {
-    *out = window_reach::window_reach(base, sup, numbers::layout_of(numbers), ipa).words();
+    *out = window_reach::window_reach(base, sup, layout_numbers::layout_of(numbers), ipa).words();
 }

@@ -22,6 +22,6 @@ fn replay_line() -> bool {
         };
         x[i] = n;
     }
-    let answer = validate::validate(numbers::layout_of(&x)).words();
+    let answer = validate::validate(layout_numbers::layout_of(&x)).words();
     replay_lines::print_line(&answer)
 }

@@ -29,7 +29,7 @@ fn replay_line(arena: &mut [u64]) -> bool {
     if !replay_lines::read_numbers(&mut numbers) {
         return false;
     }
-    call_over(arena, &x, numbers::layout_of(&numbers))
+    call_over(arena, &x, layout_numbers::layout_of(&numbers))
 }
 
 // A word at so many places from this one on. Whether all are there.

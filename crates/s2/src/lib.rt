@@ -20,7 +20,10 @@ ghost use Rattle.s2.specs.Answers.{authorizedAnswer, exactAnswer};
 pub extern "C" fn s2_validate(layout: &[u64; Layout::NUMBERS], values: &mut [u64; 8]) -> u32
     ensures { λ r. ⌜ (r ∷ now (values .exit)) ≡ validateAnswer (now (layout .entry)) ⌝ }
 {
-    answer(validate::validate(numbers::layout_of(layout)), values)
+    answer(
+        validate::validate(layout_numbers::layout_of(layout)),
+        values,
+    )
 }
 
 // Rows 2 and 15 to 17. Both maps are filled, as far as document 01 says where it refuses.
@@ -74,7 +77,7 @@ pub extern "C" fn s2_encode(
         (now (arena .exit)) ⌝ }
 {
     answer(
-        encode::encode(arena, base, sup, numbers::layout_of(layout)),
+        encode::encode(arena, base, sup, layout_numbers::layout_of(layout)),
         values,
     )
 }
@@ -93,7 +96,7 @@ pub extern "C" fn s2_step(
         (r ∷ now (values .exit)) (now (arena .exit)) ⌝ }
 {
     answer(
-        update::step(arena, base, sup, numbers::layout_of(layout), step),
+        update::step(arena, base, sup, layout_numbers::layout_of(layout), step),
         values,
     )
 }
@@ -127,7 +130,7 @@ pub extern "C" fn s2_verify(
         ≡ verifyAnswer (now (layout .entry)) (now (arena .entry)) (now (base .entry)) (now (sup .entry)) ⌝ }
 {
     answer(
-        verify::verify_encoding(arena, base, sup, numbers::layout_of(layout)),
+        verify::verify_encoding(arena, base, sup, layout_numbers::layout_of(layout)),
         values,
     )
 }
@@ -137,7 +140,7 @@ pub extern "C" fn s2_verify(
 pub extern "C" fn s2_exposed(layout: &[u64; Layout::NUMBERS], values: &mut [u64; 8]) -> u32
     ensures { λ r. ⌜ (r ∷ now (values .exit)) ≡ exposedAnswer (now (layout .entry)) ⌝ }
 {
-    match exposed::exposed_table(numbers::layout_of(layout)) {
+    match exposed::exposed_table(layout_numbers::layout_of(layout)) {
         Exposed::Told(exposure) => told(exposure.words(), values),
         Exposed::Refused(refusal) => answer(Verdict::Refused(refusal), values),
     }

@@ -16,7 +16,8 @@ use Rattle.rows.specs.Rows.{windowRows, refusalsAt, guardRows}
 use Rattle.verify_theorems.proofs.Changed.{sorted, drawn, first-drawn}
 use Rattle.verify_theorems.proofs.LetsBy.{encoded-verifies}
 use Rattle.verify_theorems.proofs.Told.{halves}
-use Rattle.verify_theorems.specs.Examples.{VerifyExamples, Wrong, wrong, unnamed, spare, leafless, faultOf, wrongs, imageHighS, apartS}
+use Rattle.verify_theorems.specs.Examples.{VerifyExamples, Wrong, wrong, unnamed, spare, leafless, faultOf, wrongs, imageHighS}
+use Rattle.verify_theorems.specs.Examples.{apartS}
 use Rattle.verify_theorems.specs.Examples.{verdict, ToldInOrder, Sound, SoundScenes, BeforeWords}
 use Rattle.verify_theorems.specs.Verified.{Guarding, Verifies}
 use Rattle.verify_rows.specs.Verifying.{liveRow, l1Rows, encodingRows, verifyRows}

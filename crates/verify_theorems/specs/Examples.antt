@@ -1,5 +1,5 @@
 -- Document 01's examples of rows 18 to 22, and verification's order: of two wrong words the first in its list is told.
-use Prim.Native.Nat.{ℕ}
+use Prim.Native.Nat.{ℕ, _-_}
 use mathlib.Core.List.{List, [], _∷_, map}
 use mathlib.Core.Path.{_≡_}
 use lib.ListN.{replicate}
@@ -130,4 +130,4 @@ pub record BeforeWords : Type 0 where
   pub maps :
       first (verifyRows (replicate arenaLength 0) (4 ∷ []) supS (layoutOf (line 0xC 0x5000_0000 sceneS)))
       ≡ refused (row 3 (1 ∷ 0 ∷ []))
-  pub arena : first (verifyRows (replicate 3071 0) (4 ∷ []) supS (layoutOf sceneS)) ≡ refused (row 1 [])
+  pub arena : first (verifyRows (replicate (arenaLength - 1) 0) (4 ∷ []) supS (layoutOf sceneS)) ≡ refused (row 1 [])

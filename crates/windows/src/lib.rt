@@ -1,4 +1,4 @@
-// Rows 9 to 12 of document 01's table: the windows of a layout, each by itself here, pair by pair in `apart` (hv-s2's arm64.rs, `validate`).
+// Rows 9 to 12 of document 01's table, of the windows of a layout: each by itself here, pair by pair in `apart` (hv-s2's arm64.rs).
 use layout::Layout;
 use layout::Window;
 use refusal::Refusal;

@@ -39,7 +39,8 @@ returns c =
     c .told .ensures
     ∙ w .words .ensures
     ∙ ap (λ (x : Exposed). toldWords exposureValues (exposureOf x)) (sym (t .exposure .given .1))
-    ∙ ap (toldWords exposureValues) (e .exposed-table .ensures ∙ ap (λ l. after (first (refusals l)) (exposure l)) (e .before .layout-of .ensures))
+    ∙ ap (toldWords exposureValues)
+    (e .exposed-table .ensures ∙ ap (λ l. after (first (refusals l)) (exposure l)) (e .before .layout-of .ensures))
 
 returns-2 : tie.Need-returns-2
 returns-2 c =
@@ -47,7 +48,8 @@ returns-2 c =
     let e = t .before .before in
     c .answer .ensures
     ∙ ap (λ (x : Exposed). toldWords exposureValues (exposureOf x)) (sym (t .refusal .given .1))
-    ∙ ap (toldWords exposureValues) (e .exposed-table .ensures ∙ ap (λ l. after (first (refusals l)) (exposure l)) (e .before .layout-of .ensures))
+    ∙ ap (toldWords exposureValues)
+    (e .exposed-table .ensures ∙ ap (λ l. after (first (refusals l)) (exposure l)) (e .before .layout-of .ensures))
 
 pub s2-exposed-spec : {M : Type 1} → statement M
 s2-exposed-spec =

@@ -1,8 +1,8 @@
 -- `layout_of` meets its contract: each field is the number in its place.
 use borrow.Author.Needs.{needs}
 use Rattle.layout.specs.Layout.{layoutOf}
-use Rattle.numbers.proofs.layout_of.Statement.{statement}
-use Rattle.numbers.proofs.layout_of.Tie as tie
+use Rattle.layout_numbers.proofs.layout_of.Statement.{statement}
+use Rattle.layout_numbers.proofs.layout_of.Tie as tie
 
 element-copy-out-of : tie.Need-element-copy-out-of
 element-copy-out-of c = search needs
