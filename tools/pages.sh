@@ -1,6 +1,6 @@
 #!/bin/sh
-# Holds what the pages say to the files: every path, edit and name is there; the definitions that must be believed, the edits and the described
-# calls are as many; so much stack is taken; and the board's register has its value. And make help lists every target that is no step of another.
+# Holds what the pages say to the files: every path, edit, crate and name is there; the definitions that must be believed, the edits and the
+# described calls are as many; so much stack is taken; and the board's register has its value. And make help lists every target that is no step of another.
 set -eu
 cd "$(dirname "$0")/.."
 pages="README.md NOTICE docs/*.md crates/README.md oracle/README.md arm/README.md board/README.md"
@@ -24,10 +24,9 @@ grep -ohP '`\K[a-z]+(-[A-Za-z0-9]+)+(?=`)' README.md docs/*.md | sort -u | grep 
 # A name that a path stands behind is there.
 awk -f tools/named.awk $pages
 
-# Each crate has its layer.
-sed -n 's/^\([a-z0-9_]*\):.*/\1/p' crates.txt | while read -r crate; do
-    says crates/README.md "\`$crate\`"
-done
+# The layers have each crate, and no other.
+layers=$(grep '^|' crates/README.md | grep -o '`[a-z0-9_]*`' | tr -d '\`' | sort)
+[ "$(sed -n 's/^\([a-z0-9_]*\):.*/\1/p' crates.txt | sort)" = "$layers" ] || { echo "crates/README.md has other crates than crates.txt"; exit 1; }
 
 believed() {
     awk -f tools/believed.awk "$@" | tail -1
@@ -49,22 +48,28 @@ listed=$(subjects | cut -d ' ' -f 2- | tr ' ' '\n' | sort)
 [ "$(awk -f tools/believed.awk $calls $demand2 $demand3 $dump | grep -o 'crates/.*' | sort)" = "$listed" ] ||
     { echo "docs/TRUST.md lists other files than the four statements rest on"; exit 1; }
 
+# A fault that is listed as missed is of a function that is there.
+grep -v '^#' sabotage/missed.txt | cut -f 1 | sort -u | while read -r function; do
+    grep -qrE "fn ${function##*::}\b" "crates/${function%%::*}/src" || { echo "no $function, which sabotage/missed.txt names"; exit 1; }
+done
+
 # Each edit that a page names is in the folder of the path before it.
-edits() {
+named_edits() {
     grep -ohP 'crates/[a-z0-9_]+/must-fail/[a-z0-9_]+\.edit(, [a-z0-9_]+\.edit)*' docs/*.md
 }
-edits | sort -u | while read -r named; do
+named_edits | sort -u | while read -r named; do
     folder=${named%%/must-fail/*}/must-fail
     for edit in $(echo "${named#"$folder"/}" | tr -d ,); do
         [ -e "$folder/$edit" ] || { echo "no $folder/$edit, which a page names"; exit 1; }
     done
 done
-[ "$(edits | grep -o '\.edit' | wc -l)" = "$(grep -oh '[a-z0-9_]\.edit' docs/*.md | wc -l)" ] || { echo "a page names an edit without its folder"; exit 1; }
+[ "$(named_edits | grep -o '\.edit' | wc -l)" = "$(grep -oh '[a-z0-9_]\.edit' docs/*.md | wc -l)" ] ||
+    { echo "a page names an edit without its folder"; exit 1; }
 
-for edits in crates/*/must-fail; do
-    crate=${edits%/must-fail}
-    grep -qE "\`${crate#crates/}\` $(ls "$edits" | wc -l)(,| \|)" docs/SABOTAGE.md || { echo "docs/SABOTAGE.md has another count of the edits of $crate"; exit 1; }
-done
+# The table of edits has each crate with its count, and no other.
+counted=$(grep '^|' docs/SABOTAGE.md | grep -oP '`[a-z0-9_]+` [0-9]+(?=,| \|)' | tr -d '\`' | sort)
+[ "$(for edits in crates/*/must-fail; do echo "$(basename "${edits%/must-fail}") $(ls "$edits" | wc -l)"; done | sort)" = "$counted" ] ||
+    { echo "docs/SABOTAGE.md has other crates or counts of edits"; exit 1; }
 says docs/SABOTAGE.md "There are $(ls crates/*/must-fail/*.edit | wc -l), in $(ls -d crates/*/must-fail | wc -l) crates"
 
 definitions=$(grep -l '^file: specs' crates/*/must-fail/*.edit | wc -l)

@@ -1,4 +1,4 @@
--- The emitted word has no row: it is read as what is wanted.
+-- The emitted word of a device has no row: it is read as what is wanted. And how far an address lies from a window's base.
 use Prim.Native.Nat.{ℕ, _+_, _-_, _≤_}
 use mathlib.Core.Bool.{Bool, true, false}
 use mathlib.Core.List.{[]}

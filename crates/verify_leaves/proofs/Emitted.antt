@@ -1,4 +1,4 @@
--- The emitted word has no row: it is read as what is wanted.
+-- The emitted word of a page or block has no row: it is read as what is wanted.
 use Prim.Native.Nat.{ℕ}
 use mathlib.Core.Bool.{Bool, false}
 use mathlib.Core.List.{[]}

@@ -1,6 +1,6 @@
 -- `device_slot` meets its contract: the word is compared by what is found with what is wanted.
-use Rattle.verify_rows.specs.Verifying.{deviceRow}
 use borrow.Author.Needs.{needs}
+use Rattle.verify_rows.specs.Verifying.{deviceRow}
 use Rattle.verify_devices.proofs.device_slot.Statement.{statement}
 use Rattle.verify_devices.proofs.device_slot.Tie as tie
 

@@ -1,8 +1,8 @@
 -- `wanted_block` meets its contract: a block where the window contains the address.
 use mathlib.Core.Path.{_≡_}
 use native.Mathlib.Omega.{arith}
-use Rattle.desc.specs.Descriptor.{blockAddress}
 use borrow.Author.Needs.{needs}
+use Rattle.desc.specs.Descriptor.{blockAddress}
 use Rattle.verify_devices.proofs.wanted_block.Statement.{statement}
 use Rattle.verify_devices.proofs.wanted_block.Tie as tie
 

@@ -1,6 +1,6 @@
 -- `super_frame` meets its contract: the word at its slot is compared by what is found with what the entry wants.
-use Rattle.verify_rows.specs.Verifying.{superRow}
 use borrow.Author.Needs.{needs}
+use Rattle.verify_rows.specs.Verifying.{superRow}
 use Rattle.verify_leaves.proofs.super_frame.Statement.{statement}
 use Rattle.verify_leaves.proofs.super_frame.Tie as tie
 
