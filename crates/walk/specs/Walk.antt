@@ -26,6 +26,7 @@ abbrev pub reading : ℕ → Stop → Reached
 reading x (Leaf level d) = pick (eqb level 3) (leafReach (x % page) (decodedPage d)) (leafReach (x % block) (decodedBlock d))
 reading x (Stopped level) = Nothing
 
+-- from the l1 address down to where the descent stops; an address of 2^39 or more reaches nothing
 unfoldable pub walkOf : List ℕ → (ℕ → Words) → ℕ → Reached
 walkOf tables ws x = reading x (stopOf tables ws x)
 
