@@ -3,9 +3,10 @@ use Prim.Native.Nat.{ℕ, zero, suc, _+_, _/_, _%_, _≤_}
 use mathlib.Core.List.{List, [], _∷_, _++_}
 use mathlib.Core.Path.{_≡_}
 use lib.Dec.{ltb}
-use lib.ListN.{length, drop}
+use lib.ListN.{length}
 use Rattle.fields.specs.Ascii.{ascii, lineFeed}
 use Rattle.fields.specs.Named.{pick}
+use Rattle.text.specs.Front.{inFront}
 
 unfoldable pub badLine : List ℕ
 badLine = ascii "BAD LINE\n"
@@ -22,10 +23,6 @@ refusedLine number = ascii "REFUSED " ++ (decimal 20 number ++ (lineFeed ∷ [])
 -- the longest line: REFUSED, a space, 20 digits and a line feed
 abbrev pub longest : ℕ
 longest = 29
-
--- a text in the front of a buffer; the rest stays
-abbrev pub inFront : List ℕ → List ℕ → List ℕ
-inFront text old = text ++ drop (length text) old
 
 -- a buffer that is lent for a line, at entry and exit, and the length that is returned
 pub record Puts (text old : List ℕ) (n : ℕ) (new : List ℕ) : Type 0 where

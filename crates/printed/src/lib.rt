@@ -1,10 +1,10 @@
 // The lines that the dump prints (document 01, "Proved and printed").
-ghost use Prim.Native.Nat.{_+_, _%_, _≤_};
+ghost use Prim.Native.Nat.{_+_, _≤_};
 ghost use mathlib.Core.Path.{_≡_};
 ghost use lib.ListN.{length};
 ghost use lib.Seq.{paste};
 ghost use Rattle.printed.specs.Line.{badLine, refusedLine, longest, Puts};
-ghost use Rattle.printed.specs.Word.{glyph, digits, wordLine};
+ghost use Rattle.printed.specs.Word.{wordLine};
 
 // The longest line: REFUSED, a space, 20 digits and a line feed.
 pub const LINE: usize = 29;
@@ -40,9 +40,7 @@ fn put(text: &[u8], out: &mut [u8], at: usize) -> usize
     ensures { λ r. ⌜ r ≡ at + length (now (text .entry)) ⌝ }
     ensures { λ _. ⌜ now (out .exit) ≡ paste (now (out .entry)) at (now (text .entry)) (length (now (text .entry))) ⌝ }
 {
-    for i in 0..text.len() {
-        out[at + i] = text[i];
-    }
+    text::put(text, out, at);
     at + text.len()
 }
 
@@ -57,32 +55,9 @@ fn spelled_word(table: u64, index: u64, word: u64) -> [u8; 23]
     ensures { λ r. ⌜ r ≡ wordLine table index word ⌝ }
 {
     let mut line = [b' '; 23];
-    spell(table, &mut line[0..1]);
-    spell(index, &mut line[2..5]);
-    spell(word, &mut line[6..22]);
+    text::spell(table, &mut line[0..1]);
+    text::spell(index, &mut line[2..5]);
+    text::spell(word, &mut line[6..22]);
     line[22] = b'\n';
     line
-}
-
-// The last digits of a number, as many as there is room for.
-fn spell(n: u64, out: &mut [u8])
-    ensures { λ _. ⌜ now (out .exit) ≡ digits (length (now (out .entry))) n ⌝ }
-{
-    let mut i = out.len();
-    let mut rest = n;
-    while 0 < i {
-        i -= 1;
-        out[i] = last_digit(rest);
-        rest /= 16;
-    }
-}
-
-fn last_digit(n: u64) -> u8
-    ensures { λ r. ⌜ r ≡ glyph (n % 16) ⌝ }
-{
-    let d = (n % 16) as u8;
-    if d < 10 {
-        return b'0' + d;
-    }
-    b'A' + (d - 10)
 }

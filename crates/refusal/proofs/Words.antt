@@ -11,7 +11,7 @@ use Rattle.refusal.specs.declared.Refusal.the-variants.{WindowUnaligned,
 use Rattle.refusal.specs.declared.Refusal.the-variants.{OutputPastLimit, RegionsCollide, WindowsOverlap, TablesEqual, SuperUnbacked}
 use Rattle.refusal.specs.declared.Refusal.the-variants.{UnsupportedSpan, OutOfRange, SpanConflict, BadTableEntry, BadImageBlock}
 use Rattle.refusal.specs.declared.Refusal.the-variants.{BadLeaf, SpuriousDescriptor, BadDeviceBlock, UnauthorizedMapping}
-use Rattle.refusal.specs.declared.Refusal.the-variants.{WriteEscalation, Inexact, StepPastLast}
+use Rattle.refusal.specs.declared.Refusal.the-variants.{WriteEscalation, Inexact, StepPastLast, PageTooLong}
 use Rattle.refusal.specs.declared.Verdict.the-variants.{Accepted, Refused}
 use Rattle.refusal.specs.declared.Verdict.{Verdict}
 
@@ -43,6 +43,7 @@ number-below (Refused (UnauthorizedMapping dom mfn owner perm)) = omega arith
 number-below (Refused (WriteEscalation dom mfn owner)) = omega arith
 number-below (Refused (Inexact dom mfn mapped expected)) = omega arith
 number-below (Refused StepPastLast) = omega arith
+number-below (Refused PageTooLong) = omega arith
 
 pub nine :
     (w : List ℕ) →

@@ -1,4 +1,4 @@
--- The number and the values of each case of `Refusal`, by document 01's table.
+-- The number and the values of each case of `Refusal`, by document 01's table; from 27 on, by the requests.
 use Prim.Native.Nat.{ℕ}
 use mathlib.Core.Bool.{Bool}
 use mathlib.Core.List.{List, [], _∷_, _++_}
@@ -17,7 +17,7 @@ use Rattle.refusal.specs.declared.Refusal.the-variants.{WindowUnaligned,
 use Rattle.refusal.specs.declared.Refusal.the-variants.{OutputPastLimit, RegionsCollide, WindowsOverlap, TablesEqual, SuperUnbacked}
 use Rattle.refusal.specs.declared.Refusal.the-variants.{UnsupportedSpan, OutOfRange, SpanConflict, BadTableEntry, BadImageBlock}
 use Rattle.refusal.specs.declared.Refusal.the-variants.{BadLeaf, SpuriousDescriptor, BadDeviceBlock, UnauthorizedMapping}
-use Rattle.refusal.specs.declared.Refusal.the-variants.{WriteEscalation, Inexact, StepPastLast}
+use Rattle.refusal.specs.declared.Refusal.the-variants.{WriteEscalation, Inexact, StepPastLast, PageTooLong}
 use Rattle.refusal.specs.declared.Verdict.{Verdict}
 use Rattle.refusal.specs.declared.Verdict.the-variants.{Accepted, Refused}
 
@@ -68,6 +68,7 @@ rowOf (UnauthorizedMapping dom mfn owner perm) = row 23 (dom ∷ mfn ∷ (ownerV
 rowOf (WriteEscalation dom mfn owner) = row 24 (dom ∷ mfn ∷ owner ∷ [])
 rowOf (Inexact dom mfn mapped expected) = row 25 (dom ∷ mfn ∷ entryCode mapped ∷ entryCode expected ∷ [])
 rowOf StepPastLast = row 26 []
+rowOf PageTooLong = row 27 []
 
 -- the row of a refusal, where its test holds
 abbrev pub refuse : Bool → Refusal → List Row

@@ -8,7 +8,7 @@ ghost use mathlib.Core.Path.{_≡_};
 ghost use Rattle.refusal.specs.Outcome.{leafValues, wantedValues, rowOf, outcomeOf, rowWords, outcomeWords};
 ghost use Rattle.refusal.specs.declared.Refusal.the-variants.{BadTableEntry, BadImageBlock, BadLeaf, UnauthorizedMapping, Inexact};
 
-// Rows 1 to 26, by the Rust's names where it has them, with the values that a refusal carries. Names are document 01's codes: maps,
+// Rows 1 to 27, by the Rust's names where it has them, with the values that a refusal carries. Names are document 01's codes: maps,
 // windows and tables, and in `WindowUnaligned` row 6's checks.
 pub enum Refusal {
     ArenaLength,
@@ -107,6 +107,7 @@ pub enum Refusal {
         expected: Entry,
     },
     StepPastLast,
+    PageTooLong,
 }
 
 pub enum Verdict {
@@ -191,6 +192,7 @@ impl Refusal {
                 expected,
             } => inexact(dom, mfn, mapped, expected),
             Refusal::StepPastLast => [26, 0, 0, 0, 0, 0, 0, 0, 0],
+            Refusal::PageTooLong => [27, 0, 0, 0, 0, 0, 0, 0, 0],
         }
     }
 }

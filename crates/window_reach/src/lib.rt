@@ -104,7 +104,8 @@ fn grant(w: Window, ipa: u64, exempt: bool, entry: u8) -> Reached
     by_entry(w.pa + (ipa - w.ipa), exempt, entry)
 }
 
-fn by_entry(pa: u64, exempt: bool, entry: u8) -> Reached
+// An output address by an entry of a leaf map.
+pub fn by_entry(pa: u64, exempt: bool, entry: u8) -> Reached
     ensures { λ r. ⌜ r ≡ byEntry pa exempt entry ⌝ }
 {
     match entry {

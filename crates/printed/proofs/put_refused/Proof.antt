@@ -8,9 +8,10 @@ use lib.Seq.{paste}
 use borrow.Author.Needs.{needs}
 use denote.Ref.{now}
 use Rattle.fields.specs.Ascii.{ascii, lineFeed}
-use Rattle.printed.specs.Line.{refusedLine, inFront}
+use Rattle.printed.specs.Line.{refusedLine}
+use Rattle.text.proofs.Front.{put-first, put-next}
+use Rattle.text.specs.Front.{inFront}
 use Rattle.printed.proofs.Decimal.{fewest, few}
-use Rattle.printed.proofs.Front.{put-first, put-next}
 use Rattle.printed.proofs.put_refused.Statement.{statement}
 use Rattle.printed.proofs.put_refused.Tie as tie
 

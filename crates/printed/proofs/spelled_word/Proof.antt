@@ -7,7 +7,8 @@ use lib.ListN.{length, set, replicate}
 use borrow.Author.Needs.{needs}
 use borrow.Rule.Slice.PartMut.{midOf, putMid}
 use Rattle.fields.specs.Ascii.{space, lineFeed}
-use Rattle.printed.specs.Word.{digits, wordLine}
+use Rattle.printed.specs.Word.{wordLine}
+use Rattle.text.specs.Digits.{digits}
 use Rattle.printed.proofs.spelled_word.Statement.{statement}
 use Rattle.printed.proofs.spelled_word.Tie as tie
 

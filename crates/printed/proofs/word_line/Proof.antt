@@ -5,8 +5,9 @@ use native.Mathlib.Omega.{arith}
 use lib.ListN.{length}
 use borrow.Author.Needs.{needs}
 use denote.Ref.{now}
-use Rattle.printed.specs.Line.{inFront}
-use Rattle.printed.proofs.Front.{put-first, word-line-length}
+use Rattle.text.proofs.Front.{put-first}
+use Rattle.text.specs.Front.{inFront}
+use Rattle.printed.proofs.Front.{word-line-length}
 use Rattle.printed.proofs.word_line.Statement.{statement}
 use Rattle.printed.proofs.word_line.Tie as tie
 

@@ -104,6 +104,9 @@ inexact-requires c κs = search needs
 enum-told-4 : tie.Need-enum-told-4
 enum-told-4 c = search needs
 
+enum-told-5 : tie.Need-enum-told-5
+enum-told-5 c = search needs
+
 returns : tie.Need-returns
 returns c = sym (ap wordsOf (c .enum-told .given .1))
 
@@ -182,6 +185,9 @@ returns-25 c = c .inexact .ensures ∙ sym (ap wordsOf (c .before .before .self2
 returns-26 : tie.Need-returns-26
 returns-26 c = sym (ap wordsOf (c .enum-told4 .given .1))
 
+returns-27 : tie.Need-returns-27
+returns-27 c = sym (ap wordsOf (c .enum-told5 .given .1))
+
 pub words-spec : {M : Type 1} → statement M
 words-spec =
     tie.close
@@ -217,6 +223,7 @@ words-spec =
     enum-known-self-22
     inexact-requires
     enum-told-4
+    enum-told-5
     returns
     returns-2
     returns-3
@@ -242,4 +249,5 @@ words-spec =
     returns-23
     returns-24
     returns-25
-    returns-26)
+    returns-26
+    returns-27)

@@ -1,8 +1,8 @@
 -- `last_digit` meets its contract: the branch is the definition's test.
 use borrow.Author.Needs.{needs}
 use borrow.Author.Tests.{lt-ltb, le-ltb}
-use Rattle.printed.proofs.last_digit.Statement.{statement}
-use Rattle.printed.proofs.last_digit.Tie as tie
+use Rattle.text.proofs.last_digit.Statement.{statement}
+use Rattle.text.proofs.last_digit.Tie as tie
 
 cast-d : tie.Need-cast-d
 cast-d c = search needs

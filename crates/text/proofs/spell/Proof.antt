@@ -8,9 +8,9 @@ use native.Mathlib.Omega.{arith}
 use lib.ListN.{length, drop, set, length-set}
 use lib.Seq.{drop-length, append-snoc}
 use borrow.Author.Needs.{needs}
-use Rattle.printed.specs.Word.{glyph, digits}
-use Rattle.printed.proofs.spell.Statement.{statement}
-use Rattle.printed.proofs.spell.Tie as tie
+use Rattle.text.specs.Digits.{glyph, digits}
+use Rattle.text.proofs.spell.Statement.{statement}
+use Rattle.text.proofs.spell.Tie as tie
 
 abbrev Inv-loop : tie.InvT-loop
 Inv-loop n out₀ i₀ rest₀ out i rest =

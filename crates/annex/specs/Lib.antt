@@ -1,0 +1,3 @@
+pub mod Annex
+pub mod Windows
+pub mod Writing

@@ -1,0 +1,3 @@
+pub mod Joined
+pub mod Page
+pub mod Pieces
