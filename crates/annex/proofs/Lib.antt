@@ -1,1 +1,3 @@
+pub mod Across
+pub mod Pieces
 pub mod Writing

@@ -10,7 +10,6 @@ use Rattle.runs.specs.Page.{lineLength, lineOf, pageOf}
 use Rattle.runs.specs.Runs.{run, goesOn, joined, before, runsFrom}
 use Rattle.runs.specs.declared.Run.{Run}
 use Rattle.text.specs.Front.{inFront, putAt}
-use Rattle.window_reach.specs.Granted.{Region, grantedIn}
 use Rattle.annex.specs.declared.Begun.{Begun}
 use Rattle.annex.specs.declared.Begun.the-variants.{Run as Going, Nothing as None}
 use Rattle.annex.specs.declared.Progress.{Progress}
@@ -42,13 +41,11 @@ Onward p bytes rs q left ts =
     (text old : List ℕ) →
     Written text old (pageOf (resumed (p .begun) rs)) (p .at) bytes → Written text old (pageOf (resumed (q .begun) ts)) (q .at) left
 
--- over the addresses of a region, where they are granted what it grants
-abbrev pub Across : Region → Progress → List ℕ → Progress → List ℕ → Type 0
-Across r p bytes q left =
-    let ipa = r .window .ipa in
-    let span = r .window .span in
+-- over some addresses, by what is granted to each
+abbrev pub Across : ℕ → ℕ → (ℕ → Reached) → Progress → List ℕ → Progress → List ℕ → Type 0
+Across ipa span grants p bytes q left =
     (f : ℕ → Reached) (n : ℕ) →
-    ((i : ℕ) → i < span → f (ipa + i) ≡ grantedIn r (ipa + i)) → Onward p bytes (runsFrom f ipa (span + n)) q left (runsFrom f (ipa + span) n)
+    ((i : ℕ) → i < span → f (ipa + i) ≡ grants i) → Onward p bytes (runsFrom f ipa (span + n)) q left (runsFrom f (ipa + span) n)
 
 -- a run that has begun, as one with the next where it goes on in that; else none
 abbrev pub lengthened : Begun → Run → Begun

@@ -8,11 +8,10 @@ use reach::Reached;
 use refusal::Refusal;
 use refusal::Verdict;
 use runs::Run;
-ghost use Prim.Native.Nat.{ℕ, suc, _+_, _-_, _*_, _%_, _≤_, _<_};
+ghost use Prim.Native.Nat.{ℕ, suc, _+_, _-_, _*_, _/_, _≤_, _<_};
 ghost use mathlib.Core.List.{List, []};
 ghost use mathlib.Core.Path.{_≡_};
 ghost use lib.ListN.{getD};
-ghost use Rattle.accepted_facts.specs.Accepted.{Within};
 ghost use Rattle.accepted_facts.specs.Guarded.{Guarded};
 ghost use Rattle.annex.specs.Annex.{annexPage, AnnexAnswer, annexOf};
 ghost use Rattle.annex.specs.Windows.{regionIn, grantedOver, Sited, Placed};
@@ -23,7 +22,7 @@ ghost use Rattle.rows.specs.Rows.{guardRows};
 ghost use Rattle.runs.specs.Page.{lineLength};
 ghost use Rattle.runs.specs.Runs.{sameAccess, goesOn, before, runsFrom};
 ghost use Rattle.runs.specs.declared.Run.{Run};
-ghost use Rattle.window_reach.specs.Granted.{region, byEntry};
+ghost use Rattle.window_reach.specs.Granted.{byEntry, grantedIn};
 
 pub enum Annexed {
     // The bytes written.
@@ -144,40 +143,68 @@ fn write_window(
     requires { ⌜ Sited w ⌝ }
     requires { ⌜ Sound done (w .ipa) ⌝ }
     ensures { λ r. ⌜ Sound r (w .ipa + w .span) ⌝ }
-    ensures { λ r. ⌜ Across (regionIn (now (base .entry)) (now (sup .entry)) exempt w) done (now (page .entry)) r (now (page .exit)) ⌝ }
+    ensures { λ r. ⌜ Across (w .ipa) (w .span) (λ i. grantedIn (regionIn (now (base .entry)) (now (sup .entry)) exempt w) (w .ipa + i))
+        done (now (page .entry)) r (now (page .exit)) ⌝ }
 {
     let code = w.code;
     match code {
         1 => write_piece(page, w.ipa, w.pa, w.span, false, 3, done),
-        2 => write_pieces(page, base, w, Layout::PAGE_SIZE, false, done),
-        3 => write_pieces(page, sup, w, Layout::BLOCK_SIZE, exempt, done),
+        2 => {
+            let count = w.span / Layout::PAGE_SIZE;
+            write_pieces(
+                page,
+                base,
+                w.ipa,
+                w.pa,
+                count,
+                Layout::PAGE_SIZE,
+                false,
+                done,
+            )
+        }
+        3 => {
+            let count = w.span / Layout::BLOCK_SIZE;
+            write_pieces(
+                page,
+                sup,
+                w.ipa,
+                w.pa,
+                count,
+                Layout::BLOCK_SIZE,
+                exempt,
+                done,
+            )
+        }
         _ => write_piece(page, w.ipa, w.pa, w.span, false, 2, done),
     }
 }
 
+// Pieces of one size, each by its entry.
 fn write_pieces(
     page: &mut [u8],
     map: &[u8],
-    w: Window,
+    ipa: u64,
+    pa: u64,
+    count: u64,
     size: u64,
     exempt: bool,
     done: Progress,
 ) -> Progress
-    requires { ⌜ Within boardLimit w ⌝ }
     requires { ⌜ pageSize ≤ size ⌝ }
-    requires { ⌜ w .span % size ≡ 0 ⌝ }
-    requires { ⌜ Sound done (w .ipa) ⌝ }
-    ensures { λ r. ⌜ Sound r (w .ipa + w .span) ⌝ }
-    ensures { λ r. ⌜ Across (region w size (λ p. getD (now (map .entry)) p 0) exempt) done (now (page .entry)) r (now (page .exit)) ⌝ }
+    requires { ⌜ ipa + count * size ≤ inputLimit ⌝ }
+    requires { ⌜ pa + count * size ≤ boardLimit ⌝ }
+    requires { ⌜ Sound done ipa ⌝ }
+    ensures { λ r. ⌜ Sound r (ipa + count * size) ⌝ }
+    ensures { λ r. ⌜ Across ipa (count * size) (λ i. byEntry (pa + i) exempt (getD (now (map .entry)) (i / size) 0))
+        done (now (page .entry)) r (now (page .exit)) ⌝ }
 {
     let mut done = done;
-    let count = w.span / size;
     for p in 0..count {
         let entry = map_entries::entry_at(map, p as usize);
         done = write_piece(
             page,
-            w.ipa + p * size,
-            w.pa + p * size,
+            ipa + p * size,
+            pa + p * size,
             size,
             exempt,
             entry,

@@ -33,9 +33,12 @@ returns c =
     let is = subst (Longer (a .done .begun) (a .piece)) (sym (l .lengthened .ensures) ∙ e)
     (longer (a .done .begun) (a .piece) (start .pre .1 .1) (start .pre .0)) in (
       subst ProperBegun (sym e) (is .0),
-      (le-add-right (a .done .at) lineLength, λ rs text old w.
-          subst (λ (b : Begun). Written text old (pageOf (resumed b rs)) (a .done .at) (now (a .page))) (sym e)
-          (subst (λ (ts : List Run). Written text old (pageOf ts) (a .done .at) (now (a .page))) (is .1 rs) w)),
+      (
+        le-add-right (a .done .at) lineLength,
+        λ rs text old w.
+            subst (λ (b : Begun). Written text old (pageOf (resumed b rs)) (a .done .at) (now (a .page))) (sym e)
+            (subst (λ (ts : List Run). Written text old (pageOf ts) (a .done .at) (now (a .page))) (is .1 rs) w),
+      ),
     )
 
 close-requires : tie.Need-close-requires
@@ -54,12 +57,15 @@ returns-2 c =
     let is = subst (Longer (a .done .begun) (a .piece)) (sym (l .lengthened .ensures) ∙ m .enum-told .given .1)
     (longer (a .done .begun) (a .piece) (start .pre .1 .1) (start .pre .0)) in (
       start .pre .0,
-      (omega (arith, d .close .ensures .0, one-line (a .done .begun)), λ rs text old w.
-          let after = closes text old (a .done .begun) (before (a .piece) rs) (now (a .page)) (a .done .at)
-          (subst (λ (ts : List Run). Written text old (pageOf ts) (a .done .at) (now (a .page))) (is rs) w) in
-          subst (λ (b : List ℕ). Written text old (pageOf (before (a .piece) rs)) (d .close .result) b) (sym (d .close .ensures .1))
-          (subst (λ (n : ℕ). Written text old (pageOf (before (a .piece) rs)) n (lineAt (a .done .begun) (a .done .at) (now (a .page))))
-          (sym (d .close .ensures .0)) after)),
+      (
+        omega (arith, d .close .ensures .0, one-line (a .done .begun)),
+        λ rs text old w.
+            let after = closes text old (a .done .begun) (before (a .piece) rs) (now (a .page)) (a .done .at)
+            (subst (λ (ts : List Run). Written text old (pageOf ts) (a .done .at) (now (a .page))) (is rs) w) in
+            subst (λ (b : List ℕ). Written text old (pageOf (before (a .piece) rs)) (d .close .result) b) (sym (d .close .ensures .1))
+            (subst (λ (n : ℕ). Written text old (pageOf (before (a .piece) rs)) n (lineAt (a .done .begun) (a .done .at) (now (a .page))))
+            (sym (d .close .ensures .0)) after),
+      ),
     )
 
 pub add-spec : {M : Type 1} → statement M

@@ -1,67 +1,120 @@
+-- `write_pieces` meets its contract: the pieces before p are gone through.
+use Prim.Native.Nat.{ℕ, suc, _+_, _-_, _*_, _/_, _≤_, _<_}
+use mathlib.Core.List.{List}
+use mathlib.Core.Path.{_≡_, refl, sym, subst, _∙_}
+use native.Mathlib.Nat.{zero-mul, suc-mul}
+use native.Mathlib.Numerals.{add-one}
+use native.Mathlib.Omega.{arith}
+use lib.ListN.{length, getD}
+use borrow.Author.Needs.{needs}
+use denote.Ref.{now}
+use Rattle.annex.proofs.Pieces.{onFrom, piece-ends, from-first, from-last, next-piece}
+use Rattle.annex.specs.Writing.{resumed, Written, Onward, pieceBefore, Sound}
+use Rattle.reach.specs.declared.Reached.{Reached}
+use Rattle.runs.specs.Page.{pageOf}
+use Rattle.runs.specs.declared.Run.{Run}
+use Rattle.window_reach.specs.Granted.{byEntry}
 use Rattle.annex.proofs.write_pieces.Statement.{statement}
 use Rattle.annex.proofs.write_pieces.Tie as tie
-use Rattle.annex.proofs.write_pieces.Reads as reads
-use Rattle.annex.proofs.write_pieces.Lts as lts
-use Rattle.annex.proofs.write_piece.Reads as write-piece-reads
-use Rattle.map_entries.proofs.entry_at.Reads as entry-at-reads
 
 abbrev Inv-loop : tie.InvT-loop
-Inv-loop page₀ map w size exempt done₀ count p₀ page done p = ?
+Inv-loop page₀ map ipa pa count size exempt done₀ p₀ page done p =
+    (p ≤ count)
+    × (length page ≡ length page₀)
+    × (Sound done (ipa + p * size))
+    × ((f : ℕ → Reached) (n : ℕ) →
+      ((i : ℕ) → i < count * size → f (ipa + i) ≡ byEntry (pa + i) exempt (getD map (i / size) 0)) →
+      Onward done₀ page₀ (onFrom f ipa count size n 0) done page (onFrom f ipa count size n p))
 
 abbrev μ-loop : tie.MeasureT-loop
-μ-loop page₀ map w size exempt done₀ count p₀ page done p = ?
+μ-loop page₀ map ipa pa count size exempt done₀ p₀ page done p = count - p
 
--- src/lib.rt:173:17
-div-count : tie.Need-div-count Inv-loop μ-loop
-div-count c = ?
+-- the piece that is gone through ends in the window
+ends : (c : tie.After-write-piece-arg Inv-loop μ-loop) →
+    let h = c .before .before .before in
+    let a = h .before .before .before .args in
+    h .loop .p * a .size + a .size ≤ a .count * a .size
+ends c =
+    let h = c .before .before .before in
+    let a = h .before .before .before .args in
+    piece-ends (a .count) (a .size) (h .loop .p) (c .before .before .loop-test .taken)
 
--- src/lib.rt:174:5
 loop-holds : tie.Need-loop-holds Inv-loop μ-loop
-loop-holds c = ?
+loop-holds c =
+    let start = c .before .before in
+    let a = start .args in
+    let s = start .pre .1 .1 .1 in
+    (omega arith, refl, record { few = omega (arith, s .few, zero-mul (a .size)); proper = s .proper }, λ f n grants text old w. w)
 
--- src/lib.rt:175:13
 entry-at-requires : tie.Need-entry-at-requires Inv-loop μ-loop
-entry-at-requires c κs = ?
+entry-at-requires c κs = search needs
 
--- src/lib.rt:178:21
 mul-write-piece : tie.Need-mul-write-piece Inv-loop μ-loop
-mul-write-piece c = ?
+mul-write-piece c = omega (arith, ends c, c .before .before .before .before .before .before .pre .1 .0, c .before .before .before .before .before .before .pre .1 .1 .0)
 
--- src/lib.rt:178:13
 add-write-piece : tie.Need-add-write-piece Inv-loop μ-loop
-add-write-piece c = ?
+add-write-piece c = omega (arith, ends c, c .before .before .before .before .before .before .pre .1 .0, c .before .before .before .before .before .before .pre .1 .1 .0)
 
--- src/lib.rt:179:20
 mul-write-piece-2 : tie.Need-mul-write-piece-2 Inv-loop μ-loop
-mul-write-piece-2 c = ?
+mul-write-piece-2 c = omega (arith, ends c, c .before .before .before .before .before .before .pre .1 .0, c .before .before .before .before .before .before .pre .1 .1 .0)
 
--- src/lib.rt:179:13
 add-write-piece-2 : tie.Need-add-write-piece-2 Inv-loop μ-loop
-add-write-piece-2 c = ?
+add-write-piece-2 c = omega (arith, ends c, c .before .before .before .before .before .before .pre .1 .0, c .before .before .before .before .before .before .pre .1 .1 .0)
 
--- src/lib.rt:176:9
 write-piece-requires : tie.Need-write-piece-requires Inv-loop μ-loop
-write-piece-requires c κs = ?
+write-piece-requires c κs =
+    let start = c .before .before .before .before .before .before in
+    (start .pre .0, (omega (arith, ends c, start .pre .1 .0), c .before .before .before .loop .inv .2))
 
--- src/lib.rt:174:9
 add-p : tie.Need-add-p Inv-loop μ-loop
-add-p c = ?
+add-p c = omega (arith, c .before .before .before .before .before .loop-test .taken)
 
--- src/lib.rt:174:5
 loop-less : tie.Need-loop-less Inv-loop μ-loop
-loop-less c = ?
+loop-less c = omega (arith, c .before .before .before .before .before .loop-test .taken)
 
--- src/lib.rt:174:5
 loop-again : tie.Need-loop-again Inv-loop μ-loop
-loop-again c = ?
+loop-again c =
+    let v = c .before .before in
+    let h = v .before .before .before .before in
+    let start = h .before .before .before in
+    let a = start .args in
+    let p = h .loop .p in
+    let test = v .before .before .before .loop-test .taken in
+    let entry = v .before .before .entry-at .ensures in
+    rw add-one (
+      test,
+      v .write-piece .kept .0 ∙ h .loop .inv .1,
+      record { few = omega (arith, v .write-piece .ensures .0 .few, suc-mul p (a .size)); proper = v .write-piece .ensures .0 .proper },
+      λ f n grants text old w.
+          let x = a .ipa + p * a .size in
+          let rest = onFrom f (a .ipa) (a .count) (a .size) n (suc p) in
+          let held : List Run → Type 0 =
+          λ rs. Written text old (pageOf (resumed (h .loop .done .begun) rs)) (h .loop .done .at) (h .loop .page) in
+          let some : 0 < a .size = omega (arith, start .pre .0) in
+          let next = next-piece f (a .ipa) (a .count) (a .size) n (a .pa) (a .exempt) (λ k. getD (now (a .map)) k 0) some grants p test in
+          let here = subst held next (h .loop .inv .3 f n grants text old w) in
+          v .write-piece .ensures .1 rest text old
+          (subst (λ (e : ℕ). held (pieceBefore x (x + (a .size - 1)) (byEntry (a .pa + p * a .size) (a .exempt) e) rest)) (sym entry) here),
+    )
 
--- src/lib.rt:157:1
 same-length : tie.Need-same-length Inv-loop μ-loop
-same-length c = ?
+same-length c = c .before .loop .inv .1
 
--- src/lib.rt:157:1
 returns : tie.Need-returns Inv-loop μ-loop
-returns c = ?
+returns c =
+    let h = c .before in
+    let a = h .before .before .before .args in
+    let all : h .loop .p ≡ a .count = omega (arith, h .loop .inv .0, c .loop-test .left) in (
+      subst (λ (p : ℕ). Sound (h .loop .done) (a .ipa + p * a .size)) all (h .loop .inv .2),
+      λ f n grants text old w.
+          let held : List Run → Type 0 =
+          λ rs. Written text old (pageOf (resumed (h .loop .done .begun) rs)) (h .loop .done .at) (h .loop .page) in
+          let began = subst (λ (rs : List Run). Written text old (pageOf (resumed (a .done .begun) rs)) (a .done .at) (now (a .page)))
+          (from-first f (a .ipa) (a .count) (a .size) n) w in
+          let after = h .loop .inv .3 f n grants text old began in
+          subst held (from-last f (a .ipa) (a .count) (a .size) n)
+          (subst (λ (p : ℕ). held (onFrom f (a .ipa) (a .count) (a .size) n p)) all after),
+    )
 
 pub write-pieces-spec : {M : Type 1} → statement M
 write-pieces-spec =
@@ -69,7 +122,6 @@ write-pieces-spec =
     (tie.spec
     Inv-loop
     μ-loop
-    div-count
     loop-holds
     entry-at-requires
     mul-write-piece
