@@ -1,3 +1,4 @@
 pub mod Across
 pub mod Pieces
+pub mod Slots
 pub mod Writing

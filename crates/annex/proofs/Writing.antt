@@ -18,6 +18,15 @@ use Rattle.runs.specs.declared.Run.{Run}
 use Rattle.text.proofs.Front.{room, length-put, put-next}
 use Rattle.text.specs.Front.{inFront, putAt}
 
+-- the same, of equal bytes and of equal runs
+pub with-bytes : {text old rest : List ℕ} {at : ℕ} {b c : List ℕ} → b ≡ c → Written text old rest at b → Written text old rest at c
+with-bytes {text} {old} {rest} {at} e w = subst (Written text old rest at) e w
+
+pub with-runs :
+    {text old : List ℕ} {at : ℕ} {b : List ℕ} (begun : Begun) {rs ts : List Run} → rs ≡ ts →
+    Written text old (pageOf (resumed begun rs)) at b → Written text old (pageOf (resumed begun ts)) at b
+with-runs {text} {old} {at} {b} begun e w = subst (λ (rs : List Run). Written text old (pageOf (resumed begun rs)) at b) e w
+
 -- a run that has begun, and does not go on in the first of those that follow
 abbrev pub apart : Begun → List Run → List Run
 apart (Going r) rs = r ∷ rs

@@ -1,6 +1,6 @@
 -- The windows of an accepted layout, as the code goes through them: piece by piece, or as one.
 use Prim.Native.Nat.{ℕ, _%_, _<_}
-use mathlib.Core.Bool.{Bool, true, false}
+use mathlib.Core.Bool.{Bool, true, false, _&&_}
 use mathlib.Core.List.{List, map}
 use mathlib.Core.Path.{_≡_}
 use lib.Dec.{eqb}
@@ -25,6 +25,10 @@ regionIn base sup exempt w =
 
 abbrev pub grantedOver : List ℕ → List ℕ → Bool → List Window → ℕ → Reached
 grantedOver base sup exempt ws x = grantedBy (map (regionIn base sup exempt) ws) x
+
+-- a window that is present in this slot
+abbrev pub hasSlot : ℕ → Window → Bool
+hasSlot s w = w .present && eqb (slot w) s
 
 -- a window that is present lies in one slot of table 1; it is whole pages or blocks, and one that no map is read for has some
 pub record Sited (w : Window) : Type 0 where

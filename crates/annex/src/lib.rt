@@ -14,7 +14,7 @@ ghost use mathlib.Core.Path.{_≡_};
 ghost use lib.ListN.{getD};
 ghost use Rattle.accepted_facts.specs.Guarded.{Guarded};
 ghost use Rattle.annex.specs.Annex.{annexPage, AnnexAnswer, annexOf};
-ghost use Rattle.annex.specs.Windows.{regionIn, grantedOver, Sited, Placed};
+ghost use Rattle.annex.specs.Windows.{regionIn, grantedOver, hasSlot, Sited, Placed};
 ghost use Rattle.annex.specs.Writing.{beginning, Written, Onward, Across, pieceBefore, begunLength, lineAt, lengthened, ProperBegun, Sound};
 ghost use Rattle.layout.specs.Size.{entries, page as pageSize, l1Span, inputLimit, boardLimit};
 ghost use Rattle.refusal.specs.Table.{accepted, first};
@@ -122,13 +122,20 @@ fn write_slot(
 {
     for i in 0..Layout::WINDOWS {
         let w = ws[i];
-        if w.present {
-            if w.l1_index() == s {
-                return write_window(page, base, sup, w, exempt, done);
-            }
+        if has_slot(s, w) {
+            return write_window(page, base, sup, w, exempt, done);
         }
     }
     done
+}
+
+fn has_slot(s: u64, w: Window) -> bool
+    ensures { λ r. ⌜ r ≡ hasSlot s w ⌝ }
+{
+    if !w.present {
+        return false;
+    }
+    w.l1_index() == s
 }
 
 // Data and supers go by their maps; an image is Rx, and a device Rw.

@@ -21,10 +21,9 @@ use Rattle.demand_2.specs.Demand2.{addressesOf, Reaches, Demand2, Demand
 use Rattle.demand_2.proofs.Entries.{Entry, page-entry, block-entry, image-entry, device-entry}
 use Rattle.demand_2.proofs.Fetched.{both, allPresent, present-at, fetched}
 use Rattle.demand_2.proofs.Leaves.{BlockLeaf}
-use Rattle.demand_2.proofs.Parts.{Part, part, areaIn, In, granted-none, seen-in}
+use Rattle.demand_2.proofs.Parts.{Part, part, areaIn, In, seen-in}
 use Rattle.demand_2.proofs.Path.{seen-along, whole-path}
 use Rattle.demand_2.proofs.Seen.{Names-table, table-names, Finds, Seen, blank1, walk-seen, manual-seen}
-use Rattle.demand_2.proofs.Slots.{not-here, past-limit}
 use Rattle.demand_2.proofs.Windows.{block-window, page-window}
 use Rattle.descent.specs.Descent.{Words, wordsOf, index}
 use Rattle.descent.specs.Path.{PathAgrees}
@@ -44,6 +43,8 @@ use Rattle.reach.specs.declared.Reached.{Reached}
 use Rattle.reach.specs.declared.Reached.the-variants.{Nothing}
 use Rattle.refusal.proofs.All.{all-at, all-map, all-always, pairs-map}
 use Rattle.walk.specs.Walk.{walkOf}
+use Rattle.window_reach.proofs.Grants.{granted-none}
+use Rattle.window_reach.proofs.Slot.{not-here, past-limit}
 use Rattle.window_reach.specs.Granted.{Region, imageRegion, dataRegion, superRegion, deviceRegion, regionsOf, contains, granted}
 
 -- an image is one block, mapped to itself

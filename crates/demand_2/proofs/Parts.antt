@@ -12,6 +12,7 @@ use Rattle.reach.specs.declared.Reached.{Reached}
 use Rattle.reach.specs.declared.Reached.the-variants.{Nothing}
 use Rattle.refusal.proofs.All.{all-map}
 use Rattle.refusal.specs.All.{All, AllPairs}
+use Rattle.window_reach.proofs.Grants.{granted-none}
 use Rattle.window_reach.specs.Granted.{Region, contains, grantedIn, grantedBy}
 
 -- a region, and the address of the table that its level 1 word names
@@ -30,11 +31,6 @@ areaIn p = area (p .region .window) (p .table)
 
 abbrev pub areasIn : List Part → List Area
 areasIn ps = map areaIn ps
-
-pub granted-none : (rs : List Region) (x : ℕ) → All (λ r. contains (r .window) x ≡ false) rs → grantedBy rs x ≡ Nothing
-unfolding grantedBy
-granted-none [] x none = refl
-granted-none (r ∷ rs) x none = rw (none .0) (granted-none rs x (none .1))
 
 -- in this window, or nothing
 abbrev pub In : ℕ → Region → Reached

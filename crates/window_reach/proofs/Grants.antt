@@ -1,8 +1,8 @@
 -- What the regions grant, window by window, where code has a copy of the window and its own test.
 use Prim.Native.Nat.{ℕ, _+_, _-_, _/_, _≤_, _<_}
 use mathlib.Core.Bool.{Bool, true, false}
-use mathlib.Core.List.{List, _∷_, map}
-use mathlib.Core.Path.{_≡_, sym, ap, _∙_}
+use mathlib.Core.List.{List, [], _∷_, map}
+use mathlib.Core.Path.{_≡_, refl, sym, ap, _∙_}
 use native.Mathlib.Numerals.{add-one}
 use lib.ListN.{length, getD, drop, drop-of-length-le}
 use lib.Seq.{drop-cons}
@@ -10,6 +10,7 @@ use Rattle.accepted_facts.specs.Accepted.{Within}
 use Rattle.layout.specs.Window.{window}
 use Rattle.layout.specs.declared.Window.{Window}
 use Rattle.reach.specs.declared.Reached.the-variants.{Nothing}
+use Rattle.refusal.specs.All.{All}
 use Rattle.window_reach.specs.Granted.{Region, deviceRegion, contains, byEntry, grantedIn, grantedBy}
 use Rattle.window_reach.proofs.Contains.{inside}
 
@@ -38,6 +39,11 @@ module _ (r : Region) (rs : List Region) (x : ℕ) (w : Window) (same : w ≡ r 
   pub output : (limit : ℕ) → (r .window .present ≡ true → Within limit (r .window)) → b ≡ true → w .pa + w .span ≤ limit
   output limit within t =
       let i = inside (r .window) x (of-window ∙ t) in rw same (within (i .there) .output)
+
+pub granted-none : (rs : List Region) (x : ℕ) → All (λ r. contains (r .window) x ≡ false) rs → grantedBy rs x ≡ Nothing
+unfolding grantedBy
+granted-none [] x none = refl
+granted-none (r ∷ rs) x none = rw (none .0) (granted-none rs x (none .1))
 
 -- the devices from a place on
 abbrev pub noWindow : Window

@@ -1,2 +1,3 @@
 pub mod Contains
 pub mod Grants
+pub mod Slot

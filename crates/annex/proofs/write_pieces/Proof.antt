@@ -23,8 +23,8 @@ Inv-loop page₀ map ipa pa count size exempt done₀ p₀ page done p =
     × (length page ≡ length page₀)
     × (Sound done (ipa + p * size))
     × ((f : ℕ → Reached) (n : ℕ) →
-      ((i : ℕ) → i < count * size → f (ipa + i) ≡ byEntry (pa + i) exempt (getD map (i / size) 0)) →
-      Onward done₀ page₀ (onFrom f ipa count size n 0) done page (onFrom f ipa count size n p))
+    ((i : ℕ) → i < count * size → f (ipa + i) ≡ byEntry (pa + i) exempt (getD map (i / size) 0)) →
+    Onward done₀ page₀ (onFrom f ipa count size n 0) done page (onFrom f ipa count size n p))
 
 abbrev μ-loop : tie.MeasureT-loop
 μ-loop page₀ map ipa pa count size exempt done₀ p₀ page done p = count - p
