@@ -1,7 +1,7 @@
 -- A line that is put moves what is written on.
 use Prim.Native.Nat.{ℕ, _+_, _≤_}
 use mathlib.Core.Bool.{Bool, true, false}
-use mathlib.Core.List.{List, [], _∷_, _++_, append-assoc}
+use mathlib.Core.List.{List, [], _∷_, _++_, append-assoc, append-nil}
 use mathlib.Core.Path.{_≡_, refl, sym, ap, ap₂, subst, _∙_}
 use native.Mathlib.Omega.{arith}
 use lib.ListN.{length, length-append}
@@ -11,8 +11,8 @@ use Rattle.annex.specs.declared.Begun.{Begun}
 use Rattle.annex.specs.declared.Begun.the-variants.{Run as Going, Nothing as None}
 use Rattle.fields.specs.Named.{pick}
 use Rattle.runs.proofs.Joined.{Proper, follows, one-before, two-before}
-use Rattle.runs.proofs.Page.{line-length, page-next}
-use Rattle.runs.specs.Page.{lineLength, lineOf, pageOf}
+use Rattle.runs.proofs.Page.{line-length, last-length, page-none, page-next}
+use Rattle.runs.specs.Page.{lineLength, lineOf, lastLine, pageOf}
 use Rattle.runs.specs.Runs.{goesOn, joined, before}
 use Rattle.runs.specs.declared.Run.{Run}
 use Rattle.text.proofs.Front.{room, length-put, put-next}
@@ -46,9 +46,18 @@ longer (Going r) s p q = go (goesOn r s) refl
         let next = follows r s e .next in (omega (arith, p, q, next), one-before r s p q e)
     go false e = two-before r s e
 
+resumed-none : (b : Begun) → resumed b [] ≡ apart b []
+unfolding before
+resumed-none (Going r) = refl
+resumed-none None = refl
+
 pub one-line : (b : Begun) → begunLength b ≤ lineLength
 one-line (Going r) = omega arith
 one-line None = omega arith
+
+pub no-bytes : (bytes : List ℕ) → length bytes ≡ 0 → bytes ≡ []
+no-bytes [] e = refl
+no-bytes (b ∷ bytes) e = absurd (omega (arith, e))
 
 module _ (text old : List ℕ) where
   pub put-on :
@@ -83,3 +92,26 @@ module _ (text old : List ℕ) where
   closes (Going r) rs now at w = line-on r rs now at w
   closes None rs now at w =
       let none : at ≡ at + 0 = omega arith in subst (λ n. Written text old (pageOf rs) n now) none w
+
+  -- nothing is written yet
+  pub none-yet : Written text old text 0 old
+  none-yet = record { front = []; whole = refl; long = refl; kept = refl; bytes = λ fits. refl }
+
+  -- all runs are gone through: the line of the last, and the last line
+  pub finishes :
+      (b : Begun) (now : List ℕ) (at : ℕ) → Written text old (pageOf (resumed b [])) at now →
+      Written text old [] (at + begunLength b + lineLength) (putAt lastLine (lineAt b at now) (at + begunLength b))
+  finishes b now at w =
+      let left = lineAt b at now in
+      let so-far = at + begunLength b in
+      let closed = closes b [] now at (subst (λ (rs : List Run). Written text old (pageOf rs) at now) (resumed-none b) w) in
+      let last = subst (λ (t : List ℕ). Written text old t so-far left) (page-none ∙ sym (append-nil lastLine)) closed in
+      subst (λ (n : ℕ). Written text old [] (so-far + n) (putAt lastLine left so-far)) last-length
+      (put-on lastLine [] left so-far last)
+
+  -- nothing is to come
+  pub all-long : {at : ℕ} {now : List ℕ} → Written text old [] at now → at ≡ length text
+  all-long w = w .long ∙ ap length (sym (append-nil (w .front)) ∙ sym (w .whole))
+
+  pub all-bytes : {at : ℕ} {now : List ℕ} → Written text old [] at now → length text ≤ length old → now ≡ inFront text old
+  all-bytes w fits = w .bytes fits ∙ ap (λ t. inFront t old) (sym (append-nil (w .front)) ∙ sym (w .whole))

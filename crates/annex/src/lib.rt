@@ -13,13 +13,13 @@ ghost use mathlib.Core.List.{List, []};
 ghost use mathlib.Core.Path.{_≡_};
 ghost use lib.ListN.{getD};
 ghost use Rattle.accepted_facts.specs.Guarded.{Guarded};
-ghost use Rattle.annex.specs.Annex.{annexPage, AnnexAnswer, annexOf};
+ghost use Rattle.annex.specs.Annex.{addressCount, annexPage, AnnexAnswer, annexOf};
 ghost use Rattle.annex.specs.Windows.{regionIn, grantedOver, hasSlot, Sited, Placed};
 ghost use Rattle.annex.specs.Writing.{beginning, Written, Onward, Across, pieceBefore, begunLength, lineAt, lengthened, ProperBegun, Sound};
 ghost use Rattle.layout.specs.Size.{entries, page as pageSize, l1Span, inputLimit, boardLimit};
 ghost use Rattle.refusal.specs.Table.{accepted, first};
 ghost use Rattle.rows.specs.Rows.{guardRows};
-ghost use Rattle.runs.specs.Page.{lineLength};
+ghost use Rattle.runs.specs.Page.{lineLength, pageOf};
 ghost use Rattle.runs.specs.Runs.{sameAccess, goesOn, before, runsFrom};
 ghost use Rattle.runs.specs.declared.Run.{Run};
 ghost use Rattle.window_reach.specs.Granted.{byEntry, grantedIn};
@@ -75,8 +75,27 @@ fn write(page: &mut [u8], base: &[u8], sup: &[u8], l: Layout) -> usize
     let SuperWindow::Counted(counted) = l.super_window() else {
         return 0;
     };
-    let ws = windows::windows_of(l, counted);
-    let done = write_slots(page, base, sup, ws, l.sup_wx_exempt);
+    write_windows(
+        page,
+        base,
+        sup,
+        windows::windows_of(l, counted),
+        l.sup_wx_exempt,
+    )
+}
+
+fn write_windows(
+    page: &mut [u8],
+    base: &[u8],
+    sup: &[u8],
+    ws: [Window; Layout::WINDOWS],
+    exempt: bool,
+) -> usize
+    requires { ⌜ Placed ws ⌝ }
+    ensures { λ r. ⌜ Written (pageOf (runsFrom (grantedOver (now (base .entry)) (now (sup .entry)) exempt ws) 0 addressCount))
+        (now (page .entry)) [] r (now (page .exit)) ⌝ }
+{
+    let done = write_slots(page, base, sup, ws, exempt);
     let begun = done.begun;
     let end = close(page, done.at, begun);
     text::put(&runs::last_line(), page, end);

@@ -1,38 +1,48 @@
+-- `annex` meets its contract: rows 2 to 14 come first.
+use mathlib.Core.List.{flatMap}
+use mathlib.Core.Path.{refl, sym, ap, _∙_}
+use lib.ListN.{length}
 use borrow.Author.Needs.{needs}
+use denote.Ref.{now}
+use Rattle.annex.specs.Annex.{annexPage, annexRows, annexLeft}
+use Rattle.refusal.proofs.First.{stop}
+use Rattle.refusal.proofs.Told.{denies}
+use Rattle.refusal.specs.Outcome.{outcomeOf}
 use Rattle.annex.proofs.annex.Statement.{statement}
 use Rattle.annex.proofs.annex.Tie as tie
-use Rattle.annex.proofs.annex.Reads as reads
-use Rattle.annex.proofs.annex.Lts as lts
-use Rattle.annex.proofs.put_page.Reads as put-page-reads
-use Rattle.guard.proofs.guard_maps_at.Reads as guard-maps-at-reads
 
--- src/lib.rt:49:9
 guard-maps-at-requires : tie.Need-guard-maps-at-requires
 guard-maps-at-requires c κs = search needs
 
--- src/lib.rt:51:39
 enum-told : tie.Need-enum-told
 enum-told c = search needs
 
--- src/lib.rt:51:30
 put-page-requires : tie.Need-put-page-requires
-put-page-requires c κs = ?
+put-page-requires c κs =
+    let t = c .before in sym (t .before .before .guard-maps-at .ensures) ∙ ap outcomeOf (t .enum-told .given .1)
 
--- src/lib.rt:52:26
 enum-known-verdict : tie.Need-enum-known-verdict
 enum-known-verdict c = search needs
 
--- src/lib.rt:46:1
 same-length : tie.Need-same-length
 same-length c = search needs
 
--- src/lib.rt:46:1
 returns : tie.Need-returns
 returns c = search needs
 
--- src/lib.rt:46:1
 returns-2 : tie.Need-returns-2
-returns-2 c = ?
+unfolding annexRows flatMap
+returns-2 c =
+    let d = c .before in
+    let v = d .before .before .guard-maps-at in
+    let a = d .before .before .before .before .before .before .args in
+    let text = annexPage (a .l) (now (a .base)) (now (a .sup)) in
+    let refused = d .verdict .given in
+    let first-row = stop _ _ (v .result) (refused .0 .0) refl (refused .1) (v .ensures) in
+    record {
+      tells = denies _ (v .result) first-row (refused .0 .0) (length text) (refused .1);
+      buffer = ap (λ o. annexLeft o text (now (a .page))) (sym (ap outcomeOf (refused .1)) ∙ first-row);
+    }
 
 pub annex-spec : {M : Type 1} → statement M
 annex-spec =
