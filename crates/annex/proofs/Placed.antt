@@ -49,8 +49,8 @@ module _ (l : Layout) (facts : Accepted boardLimit l) where
   placed =
       record {
         each = (
-            λ here. image-sited (l .«guest_image_pa») (image-within facts here) here,
-            (λ here. data-sited, (λ here. super-sited, (device-sited, tt))),
+          λ here. image-sited (l .«guest_image_pa») (image-within facts here) here,
+          (λ here. data-sited, (λ here. super-sited, (device-sited, tt))),
         );
         apart = pairs-map (λ w. Unit) (λ v w. v .present ≡ true → w .present ≡ true → Apart v w)
             (λ v w. v .present ≡ true → w .present ≡ true → slot v ≡ slot w → ⊥)

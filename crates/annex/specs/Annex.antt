@@ -45,9 +45,13 @@ annexLeft (refused r) page buffer = buffer
 abbrev pub annexOutcome : List ℕ → List ℕ → List ℕ → Layout → Outcome
 annexOutcome buffer base sup l = first (annexRows buffer base sup l)
 
--- the answer, which tells the bytes written, and the buffer at exit
+-- the bytes written
+abbrev pub annexTold : List ℕ → List ℕ → List ℕ → Layout → Told ℕ
+annexTold buffer base sup l = after (annexOutcome buffer base sup l) (length (annexPage l base sup))
+
+-- the answer, and the buffer at exit
 pub record AnnexAnswer (l : Layout) (base sup old : List ℕ) (answer : Told ℕ) (new : List ℕ) : Type 0 where
-  pub tells : answer ≡ after (annexOutcome old base sup l) (length (annexPage l base sup))
+  pub tells : answer ≡ annexTold old base sup l
   pub buffer : new ≡ annexLeft (annexOutcome old base sup l) (annexPage l base sup) old
 
 abbrev pub annexOf : Annexed → Told ℕ

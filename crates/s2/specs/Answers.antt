@@ -2,6 +2,7 @@
 use Prim.Native.Nat.{ℕ}
 use mathlib.Core.List.{List, [], _∷_, map}
 use mathlib.Core.Path.{_≡_}
+use Rattle.annex.specs.Annex.{annexPage, annexLeft, annexOutcome, annexTold}
 use Rattle.arena.specs.Over.{Over}
 use Rattle.authority.specs.Authority.{authorityRows}
 use Rattle.edge.specs.declared.Edge.{Edge}
@@ -16,7 +17,7 @@ use Rattle.p2m.specs.Frame.{spanNamed}
 use Rattle.reach.specs.Reach.{reachValues}
 use Rattle.refusal.specs.Outcome.{outcomeWords}
 use Rattle.refusal.specs.Table.{Outcome, first}
-use Rattle.refusal.specs.Told.{after, toldWords}
+use Rattle.refusal.specs.Told.{Told, after, toldWords}
 use Rattle.rows.specs.Rows.{refusals, arenaGuardRows}
 use Rattle.update.specs.Step.{stepRows, leftBy}
 use Rattle.verify_rows.specs.Verifying.{verifyRows}
@@ -58,6 +59,15 @@ verifyAnswer numbers arena base sup = outcomeWords (first (verifyRows arena base
 abbrev pub exposedAnswer : List ℕ → List ℕ
 exposedAnswer numbers =
     let l = layoutOf numbers in toldWords exposureValues (after (first (refusals l)) (exposure l))
+
+abbrev pub bytesTold : Told ℕ → List ℕ
+bytesTold t = toldWords (λ n. n ∷ []) t
+
+-- the answer, and the buffer at exit
+pub record PageAnswer (numbers base sup old answer new : List ℕ) : Type 0 where
+  pub outcome : answer ≡ bytesTold (annexTold old base sup (layoutOf numbers))
+  pub page :
+      new ≡ annexLeft (annexOutcome old base sup (layoutOf numbers)) (annexPage (layoutOf numbers) base sup) old
 
 abbrev pub authorizedAnswer : ℕ → List ℕ → List (List ℕ) → List (List ℕ) → List ℕ
 authorizedAnswer dom leaves frames grants = outcomeWords (first (authorityRows frames (map grantOf grants) dom leaves))

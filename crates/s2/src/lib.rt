@@ -1,5 +1,6 @@
 // The calls of board code: numbers and slices in, document 01's number and the carried values out. A layout is lent as its numbers: the
 // sixteen fields in their order, with whether there is an image just before the image. A call returns 0 where it accepts.
+use annex::Annexed;
 use edge::Edge;
 use exposed::Exposed;
 use layout::Layout;
@@ -13,7 +14,7 @@ ghost use lib.ListN.{getD};
 ghost use Rattle.edge.specs.Edge.{edgesOf};
 ghost use Rattle.refusal.specs.Outcome.{outcomeOf, outcomeWords};
 ghost use Rattle.s2.specs.Answers.{validateAnswer, fillAnswer, EncodeAnswer, StepAnswer, walkAnswer, verifyAnswer, exposedAnswer};
-ghost use Rattle.s2.specs.Answers.{authorizedAnswer, exactAnswer};
+ghost use Rattle.s2.specs.Answers.{PageAnswer, authorizedAnswer, exactAnswer};
 
 // Rows 4 to 12.
 #[no_mangle]
@@ -143,6 +144,24 @@ pub extern "C" fn s2_exposed(layout: &[u64; Layout::NUMBERS], values: &mut [u64;
     match exposed::exposed_table(layout_numbers::layout_of(layout)) {
         Exposed::Told(exposure) => told(exposure.words(), values),
         Exposed::Refused(refusal) => answer(Verdict::Refused(refusal), values),
+    }
+}
+
+// Rows 2 to 14, then 27. The page is the front part of the buffer, which a refusal leaves as found; its bytes are told.
+#[no_mangle]
+pub extern "C" fn s2_annex(
+    page: &mut [u8],
+    base: &[u8],
+    sup: &[u8],
+    layout: &[u64; Layout::NUMBERS],
+    values: &mut [u64; 8],
+) -> u32
+    ensures { λ r. ⌜ PageAnswer (now (layout .entry)) (now (base .entry)) (now (sup .entry)) (now (page .entry)) (r ∷ now (values .exit))
+        (now (page .exit)) ⌝ }
+{
+    match annex::annex(page, base, sup, layout_numbers::layout_of(layout)) {
+        Annexed::Told(bytes) => told([0, bytes, 0, 0, 0, 0, 0, 0, 0], values),
+        Annexed::Refused(refusal) => answer(Verdict::Refused(refusal), values),
     }
 }
 
