@@ -1,4 +1,4 @@
-/* Document 01's scene S, as board code in C has it: maps from edges, tables, walks and an update. */
+/* Document 01's scene S, as board code in C has it: maps from edges, tables, walks, the annex page and an update. */
 #include <inttypes.h>
 #include <stdio.h>
 #include <stdlib.h>
@@ -39,6 +39,7 @@ static struct s2_edge edges[2] = {
 /* On a board these words stand at the addresses of the layout's tables. */
 static uint64_t arena[S2_ARENA_LEN];
 static uint8_t base[S2_MAP_LEN], sup[SUPERS];
+static uint8_t page[S2_ANNEX_MAX];
 static uint64_t values[8];
 
 /* Stops where a call refuses. */
@@ -109,6 +110,14 @@ static void encode(void)
     /* DSB ISHST, ISB: only then VTTBR_EL2 names the tables. ISB, TLBI VMALLS12E1IS, DSB ISH, ISB: only then the guest runs. */
 }
 
+/* All that the guest reaches, for the supply contract. */
+static void print_annex(void)
+{
+    accepted("annex", s2_annex(page, S2_ANNEX_MAX, base, S2_MAP_LEN, sup, SUPERS, &layout, values));
+    printf("annex page: %" PRIu64 " bytes\n", values[0]);
+    fwrite(page, 1, values[0], stdout);
+}
+
 /* Takes from the guest that it may write frame 1, while it runs. */
 static void update(void)
 {
@@ -151,6 +160,7 @@ int main(void)
     printf("words: verified\n");
     for (int i = 0; i < 8; i++)
         walk("walk", addresses[i]);
+    print_annex();
     update();
     return 0;
 }

@@ -1,10 +1,10 @@
 /* Stage-2 translation tables for board code: the calls of libs2.a.
  *
- * A call returns 0 where it accepts, else the number of document 01's row that refuses. `values` always has all its eight places
- * written: the values that the row carries, in document 01's order, and zeros after them. Where no row refuses, s2_walk and s2_exposed
- * tell there what they find, and all other calls leave zeros. An optional value is 1 and the value, or 0 and zeros. A call that refuses
- * changes nothing but `values`; s2_fill and s2_fill_edges alone leave in both maps, on 15 and 16, the edges before the failing one, and on 17
- * all edges.
+ * A call returns 0 where it accepts, else the number of the row that refuses: document 01's up to 26, 27 is change request M-100's. `values`
+ * always has all its eight places written: the values that the row carries, in the order below, and zeros after them. Where no row refuses,
+ * s2_walk and s2_exposed tell there what they find and s2_annex how many bytes it has written, and all other calls leave zeros. An optional
+ * value is 1 and the value, or 0 and zeros. A call that refuses changes nothing but `values`; s2_fill and s2_fill_edges alone leave in both
+ * maps, on 15 and 16, the edges before the failing one, and on 17 all edges.
  *
  * Nothing is asked of the numbers. Each pointer is aligned, not null, and to as many elements as the length beside it or its own type
  * says; what a call may write overlaps nothing else that it is lent. What is const is read alone, and not kept.
@@ -34,7 +34,7 @@
  * 23      domain, frame, owner (optional), permission
  * 24      domain, frame, owner
  * 25      domain, frame, mapped, expected
- * 26      nothing
+ * 26, 27  nothing
  *
  * Codes: maps and spans 1 base, 2 super (the one map of s2_authorized is 1); windows 1 image, 2 data, 3 super, 4 device; tables 1 l1,
  * 2 l2_code, 3 l2_data, 4 l3_data, 5 l2_sup, 6 l2_dev; checks 1 data ipa, 2 data pa, 3 super ipa, 4 super pa, 5 image, 6 device.
@@ -60,6 +60,9 @@ extern "C" {
 
 /* The most entries of a map. */
 #define S2_MAP_LEN 512
+
+/* The bytes of the longest annex page: 1,026 lines and the last. With a buffer of so many bytes 27 never refuses. */
+#define S2_ANNEX_MAX 41080
 
 /* Spans. */
 #define S2_BASE 1
@@ -168,6 +171,19 @@ uint32_t s2_verify(
 /* Whether a table lies in the output of a window: rows 4 to 12. It tells 1, the lowest such table and the lowest window that it lies
  * in, or zeros where there is none. */
 uint32_t s2_exposed(const struct s2_layout *layout, uint64_t values[8]);
+
+/* The annex page of a layout and two maps: rows 2 to 14, then 27, where the page is longer than the buffer. It lists every address that
+ * reaches something over the tables that s2_encode makes of them from zeros, and no other: a line of 40 bytes for each longest run of
+ * addresses with continuous output and equal access, in address order. A line is the first and the last address in 10 upper-case
+ * hexadecimal digits each, the output of the first in 12, RO or RW, X where it is executable, else -, with one space between, and a line
+ * feed. The last line is 39 equals signs and a line feed. It tells how many bytes the page has: they are the front of the buffer, no zero
+ * ends them, and the rest of the buffer stays. */
+uint32_t s2_annex(
+    uint8_t *page, size_t page_len,
+    const uint8_t *base, size_t base_len,
+    const uint8_t *sup, size_t sup_len,
+    const struct s2_layout *layout,
+    uint64_t values[8]);
 
 /* Whether the domain may reach every frame that the map maps: rows 2, 3, 23 and 24. A grant is grantor, grantee, frame, writable. */
 uint32_t s2_authorized(

@@ -18,10 +18,10 @@ impl Answer {
         }
     }
 
-    /// Of a call that tells what it finds where no row refuses.
-    pub fn told<T: Carried>(self) -> Result<Option<T>, Refusal> {
+    /// Of a call that tells something where no row refuses.
+    pub fn told<T: Carried>(self) -> Result<T, Refusal> {
         self.accepted()?;
-        Ok(optional(&mut Values::of(self)))
+        Ok(Values::of(self).read())
     }
 
     /// Stops at an answer that the contracts of the calls rule out, and says which it was. The
@@ -73,7 +73,7 @@ pub trait Carried: Sized {
 }
 
 /// What there may not be: 1 and its values, or 0 and zeros.
-pub fn optional<T: Carried>(values: &mut Values) -> Option<T> {
+fn optional<T: Carried>(values: &mut Values) -> Option<T> {
     if flag(values) {
         return Some(T::read(values));
     }
@@ -117,4 +117,11 @@ macro_rules! carried_options {
     };
 }
 
-carried_options!(u64, u16, crate::leaf::Decoded, (u64, crate::names::Access));
+carried_options!(
+    u64,
+    u16,
+    crate::leaf::Decoded,
+    crate::leaf::Reach,
+    crate::layout::Exposed,
+    (u64, crate::names::Access)
+);

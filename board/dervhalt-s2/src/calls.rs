@@ -1,4 +1,4 @@
-//! The eleven calls of `libs2.a`, as include/dervhalt_s2.h declares them, and every `unsafe` line
+//! The twelve calls of `libs2.a`, as include/dervhalt_s2.h declares them, and every `unsafe` line
 //! of this crate.
 //!
 //! What the header asks of pointers holds here by types: a reference is aligned and not null, a
@@ -14,13 +14,13 @@ use crate::maps::Maps;
 use crate::names::Span;
 use crate::records::{DomId, Edge, EdgeRow, Edges, Frame, GrantRow};
 
-/// Declares calls that are lent an arena and two maps before the layout.
-macro_rules! declare_with_arena {
-    ($($call:ident($arena:ty, $($after:ident: $last:ty),+);)*) => {
+/// Declares calls that are lent an arena or a page, and two maps, before the layout.
+macro_rules! declare_with_maps {
+    ($($call:ident($first:ident: $lent:ty, $($after:ident: $last:ty),+);)*) => {
         extern "C" {
             $(fn $call(
-                arena: $arena,
-                arena_len: usize,
+                $first: $lent,
+                len: usize,
                 base: *const u8,
                 base_len: usize,
                 sup: *const u8,
@@ -32,10 +32,11 @@ macro_rules! declare_with_arena {
     };
 }
 
-declare_with_arena! {
-    s2_encode(*mut u64, values: &mut [u64; 8]);
-    s2_step(*mut u64, step: u64, values: &mut [u64; 8]);
-    s2_verify(*const u64, values: &mut [u64; 8]);
+declare_with_maps! {
+    s2_encode(arena: *mut u64, values: &mut [u64; 8]);
+    s2_step(arena: *mut u64, step: u64, values: &mut [u64; 8]);
+    s2_verify(arena: *const u64, values: &mut [u64; 8]);
+    s2_annex(page: *mut u8, values: &mut [u64; 8]);
 }
 
 /// Declares calls that fill both maps from edges of one form.
@@ -112,12 +113,13 @@ extern "C" {
     ) -> u32;
 }
 
-/// Makes a call with the pointer and length of an arena and both maps before the layout.
-macro_rules! with_arena {
-    ($call:ident, $arena:expr, $arena_len:expr, $maps:expr, $numbers:expr, $($after:expr),+) => {{
+/// Makes a call with the pointer and length of an arena or a page, and of both maps, before the
+/// layout.
+macro_rules! with_maps {
+    ($call:ident, $lent:expr, $len:expr, $maps:expr, $numbers:expr, $($after:expr),+) => {{
         let (base, sup) = ($maps.base(), $maps.sup());
         $call(
-            $arena, $arena_len, base.as_ptr(), base.len(), sup.as_ptr(), sup.len(), $numbers,
+            $lent, $len, base.as_ptr(), base.len(), sup.as_ptr(), sup.len(), $numbers,
             $($after),+
         )
     }};
@@ -136,19 +138,25 @@ pub fn exposed(numbers: &Numbers) -> Answer {
 pub fn encode(arena: &mut [u64], maps: Maps<'_>, numbers: &Numbers) -> Answer {
     let (len, words) = (arena.len(), arena.as_mut_ptr());
     // SAFETY: the arena and each map are as long as is said, and eight values are written.
-    answer(|values| unsafe { with_arena!(s2_encode, words, len, maps, numbers, values) })
+    answer(|values| unsafe { with_maps!(s2_encode, words, len, maps, numbers, values) })
 }
 
 pub fn step(arena: &mut [u64], maps: Maps<'_>, numbers: &Numbers, step: u64) -> Answer {
     let (len, words) = (arena.len(), arena.as_mut_ptr());
     // SAFETY: the arena and each map are as long as is said, and eight values are written.
-    answer(|values| unsafe { with_arena!(s2_step, words, len, maps, numbers, step, values) })
+    answer(|values| unsafe { with_maps!(s2_step, words, len, maps, numbers, step, values) })
 }
 
 pub fn verify(arena: &[u64], maps: Maps<'_>, numbers: &Numbers) -> Answer {
     let (words, len) = (arena.as_ptr(), arena.len());
     // SAFETY: the arena and each map are as long as is said, and eight values are written.
-    answer(|values| unsafe { with_arena!(s2_verify, words, len, maps, numbers, values) })
+    answer(|values| unsafe { with_maps!(s2_verify, words, len, maps, numbers, values) })
+}
+
+pub fn annex(page: &mut [u8], maps: Maps<'_>, numbers: &Numbers) -> Answer {
+    let (len, bytes) = (page.len(), page.as_mut_ptr());
+    // SAFETY: the page and each map are as long as is said, and eight values are written.
+    answer(|values| unsafe { with_maps!(s2_annex, bytes, len, maps, numbers, values) })
 }
 
 pub fn walk(arena: &[u64], tables: &TableNumbers, ipa: u64) -> Answer {

@@ -5,10 +5,10 @@ use core::fmt::{self, Display, Formatter};
 use crate::names::{Table, Window};
 use crate::refusal::Refusal;
 
-/// A row's refusal, or one of the two things that this crate asks beyond document 01's rows.
+/// A row's refusal, or one of the two things that this crate asks beyond the rows.
 #[derive(Clone, Copy, PartialEq, Eq, Debug)]
 pub enum Error {
-    /// A row of document 01's table refuses.
+    /// A row refuses.
     Refused(Refusal),
     /// A table lies in the output of a window, so that the guest could be mapped its own tables.
     /// The library itself does not refuse such a layout, since document 01 has no row for it;

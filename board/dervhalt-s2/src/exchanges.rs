@@ -5,8 +5,10 @@
 //! its answers stay.
 
 use std::fmt::Debug;
+use std::string::{String, ToString};
 use std::vec::Vec;
 
+use crate::annex::written;
 use crate::arena::Arena;
 use crate::calls;
 use crate::changed::{changed, Change};
@@ -233,6 +235,44 @@ fn step_notices() {
                 calls::step(&mut arena.words, maps, numbers, step).accepted()?;
             }
             stored(&arena.words)
+        });
+    });
+}
+
+/// The page of `BASE` with the same maps.
+const PAGE: &str = "\
+0009000000 00091FFFFF 000009000000 RW -
+0080001000 0080001FFF 000050001000 RW -
+00C0400000 00C05FFFFF 000060400000 RO X
+00C0600000 00C07FFFFF 000060600000 RW -
+0140000000 01401FFFFF 000140000000 RO X
+=======================================
+";
+
+/// The refusals, and the pages of the layout and of an exempt one.
+fn pages() -> Vec<(Numbers, Result<String, Refusal>)> {
+    let exempt = changed(&BASE, |l| l.sup_wx_exempt = true);
+    let exempt_page = PAGE.replace("000060600000 RW -", "000060600000 RW X");
+    let refused = |(numbers, answer): (Numbers, Result<(), Refusal>)| {
+        (numbers, answer.map(|()| PAGE.to_string()))
+    };
+    refusals()
+        .into_iter()
+        .map(refused)
+        .chain([(exempt.numbers(), Ok(exempt_page))])
+        .collect()
+}
+
+/// A refused page leaves the buffer as it was.
+#[test]
+fn annex_notices() {
+    with_maps(|maps| {
+        notices(&pages(), |numbers| {
+            let mut page = [7; 400];
+            let answer = calls::annex(&mut page, maps, numbers);
+            let text = written(&page, answer).map(|text| text.to_string());
+            assert!(text.is_ok() || page == [7; 400]);
+            text
         });
     });
 }

@@ -60,7 +60,7 @@
 //!
 //! # Answers that cannot be
 //!
-//! The contracts rule out a row past 26 and a code without a name. Where one comes all the same,
+//! The contracts rule out a row past 27 and a code without a name. Where one comes all the same,
 //! the program is linked with another library than this crate was written for. The crate then
 //! panics with a sentence that has the whole answer: no caller could mend it, and going on would be
 //! to trust unchecked tables.
@@ -69,6 +69,7 @@
 #![no_std]
 #![deny(missing_docs, unsafe_code)]
 
+mod annex;
 mod answer;
 mod arena;
 #[allow(unsafe_code)]
@@ -98,6 +99,7 @@ mod ruled_out;
 #[path = "../examples/scene_s/scene.rs"]
 mod scene;
 
+pub use annex::{annex_page, ANNEX_MAX};
 pub use arena::{encode, verify_encoding, walk, Arena, ARENA_LEN};
 pub use error::Error;
 pub use layout::{CheckedLayout, Exposed, Layout, Tables};

@@ -24,6 +24,17 @@ pub struct Maps<'a> {
 }
 
 impl<'a> Maps<'a> {
+    /// Maps of any bytes, nobody's, for tests of what filled maps rule out.
+    #[cfg(test)]
+    pub(crate) fn of_bytes(base: &'a [u8], sup: &'a [u8]) -> Maps<'a> {
+        Maps {
+            dom: 0,
+            frames: &[],
+            base,
+            sup,
+        }
+    }
+
     /// The domain whose maps they are. Nothing else says for which guest's arena and layout they
     /// are.
     pub fn dom(self) -> DomId {

@@ -1,4 +1,4 @@
-//! Document 01's refusals: number, values and sentence of each row.
+//! The refusals: number, values and sentence of each row.
 
 use core::fmt::{self, Display, Formatter};
 
@@ -16,7 +16,8 @@ macro_rules! rows {
         $({ $($(#[$value_doc:meta])* $value:ident: $type:ty),+ $(,)? })?
         => $sentence:literal $(, $part:expr)*;
     )*) => {
-        /// Why a call refused: a row of document 01's table, with the values that it carries.
+        /// Why a call refused: a row of document 01's table or a later one, with the values that it
+        /// carries.
         #[derive(Clone, Copy, PartialEq, Eq, Debug)]
         pub enum Refusal {
             $($(#[$doc])* $name $({ $($(#[$value_doc])* $value: $type),+ })?,)*
@@ -252,6 +253,9 @@ rows! {
 
     /// The update has no such step.
     26 StepPastLast => "the update has ended: its last step is 6,143";
+
+    /// The annex page is longer than the buffer. [`ANNEX_MAX`](crate::ANNEX_MAX) bytes always serve.
+    27 PageTooLong => "the annex page is longer than the buffer that it is written into";
 }
 
 impl core::error::Error for Refusal {}

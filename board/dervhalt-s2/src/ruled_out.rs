@@ -2,10 +2,13 @@
 
 use std::string::ToString;
 
+use crate::annex::{written, ANNEX_MAX};
 use crate::answer::Answer;
 use crate::arena::Arena;
 use crate::calls;
-use crate::maps::leaf_map_from_edges;
+use crate::changed::changed;
+use crate::maps::{leaf_map_from_edges, Maps, MAP_LEN};
+use crate::names::Span;
 use crate::refusal::Refusal;
 use crate::scene::{DOM, EDGES, FRAMES, LAYOUT};
 
@@ -32,14 +35,72 @@ fn a_short_arena() {
     assert!(arena == Arena::ZEROS);
 }
 
+/// Rows 2 and 3 of the annex page: filled maps have at most 512 entries, and none above 3.
+#[test]
+fn long_maps_and_bytes_above_3() {
+    let refused = |base: &[u8], sup: &[u8]| {
+        let mut page = [7; 40];
+        let answer = calls::annex(&mut page, Maps::of_bytes(base, sup), &LAYOUT.numbers());
+        assert_eq!(page, [7; 40]);
+        answer.accepted()
+    };
+    let code = |map, position| Err(Refusal::MapCode { map, position });
+    let long = [4; MAP_LEN + 1];
+    assert_eq!(refused(&long, &[]), Err(Refusal::MapLength));
+    assert_eq!(refused(&[4], &long), Err(Refusal::MapLength));
+    assert_eq!(refused(&[0, 4], &[4]), code(Span::Base, 1));
+    assert_eq!(refused(&[3, 3], &[3, 4]), code(Span::Super, 1));
+    assert_eq!(refused(&[3, 3], &[3, 3]), Err(Refusal::PageTooLong));
+}
+
+/// In filled maps no frame is mapped as base and as super, so that theirs are shorter.
+#[test]
+fn the_longest_page() {
+    let layout = changed(&LAYOUT, |l| {
+        l.guest_image_pa = Some(0x1_4000_0000);
+        l.sup_frames = 512;
+    });
+    let mut map = [1; MAP_LEN];
+    map.iter_mut().step_by(2).for_each(|entry| *entry = 2);
+    let (maps, numbers) = (Maps::of_bytes(&map, &map), layout.numbers());
+    let mut page = [7; ANNEX_MAX];
+    let short = &mut page[1..];
+    let answer = calls::annex(short, maps, &numbers);
+    assert_eq!(written(short, answer), Err(Refusal::PageTooLong));
+    assert_eq!(page, [7; ANNEX_MAX]);
+    let answer = calls::annex(&mut page, maps, &numbers);
+    let text = written(&page, answer).unwrap();
+    assert_eq!((text.len(), text.lines().count()), (ANNEX_MAX, 1027));
+    assert!(text.lines().all(|line| line.len() == 39));
+}
+
+#[test]
+#[should_panic = "libs2.a answers 0 with [29, 0, 0, 0, 0, 0, 0, 0], which its contract rules out"]
+fn a_page_past_its_buffer() {
+    let _ = written(&[b'='; 40], told(41));
+}
+
+#[test]
+#[should_panic = "libs2.a answers 0 with [28, 0, 0, 0, 0, 0, 0, 0], which its contract rules out"]
+fn a_page_that_is_no_text() {
+    let _ = written(&[0xFF; 40], told(40));
+}
+
+fn told(value: u64) -> Answer {
+    Answer {
+        number: 0,
+        values: [value, 0, 0, 0, 0, 0, 0, 0],
+    }
+}
+
 fn refused(number: u32, values: [u64; 8]) -> Refusal {
     Refusal::of(Answer { number, values })
 }
 
 #[test]
-#[should_panic = "libs2.a answers 27 with [9, 0, 0, 0, 0, 0, 0, 0], which its contract rules out"]
+#[should_panic = "libs2.a answers 28 with [9, 0, 0, 0, 0, 0, 0, 0], which its contract rules out"]
 fn a_row_past_the_last() {
-    refused(27, [9, 0, 0, 0, 0, 0, 0, 0]);
+    refused(28, [9, 0, 0, 0, 0, 0, 0, 0]);
 }
 
 #[test]

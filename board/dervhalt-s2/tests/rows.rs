@@ -1,5 +1,5 @@
-//! Rows 2 to 26, each by document 01's example: number, values and sentence. Row 1, which the type
-//! of an arena rules out, is tested beside the calls.
+//! Rows 2 to 26, each by document 01's example, and 27: number, values and sentence. Row 1, which
+//! the type of an arena rules out, is tested beside the calls.
 
 mod changed;
 mod made;
@@ -8,9 +8,9 @@ mod scene;
 
 use changed::{changed, Change};
 use dervhalt_s2::{
-    check_authorized_with, check_exact, encode, leaf_map_from_edges, verify_encoding, Access,
-    Arena, Check, Decoded, Edge, Error, Frame, Grant, Layout, PageType, Perm, Progress, PtLevel,
-    Refusal, Span, Table, Update, Window, MAP_LEN, STEPS,
+    annex_page, check_authorized_with, check_exact, encode, leaf_map_from_edges, verify_encoding,
+    Access, Arena, Check, Decoded, Edge, Error, Frame, Grant, Layout, PageType, Perm, Progress,
+    PtLevel, Refusal, Span, Table, Update, Window, MAP_LEN, STEPS,
 };
 use made::made;
 use scene::{DOM, EDGES, FRAMES, LAYOUT};
@@ -437,4 +437,16 @@ fn row_26() {
     refuses(answer, 26, Refusal::StepPastLast, sentence);
     assert_eq!(update.stores(), STEPS);
     assert!(*update.arena() == words);
+}
+
+#[test]
+fn row_27() {
+    let (mut base, mut sup) = ([0; 8], [0; 8]);
+    let maps = leaf_map_from_edges(&EDGES, &FRAMES, DOM, &mut base, &mut sup).unwrap();
+    let (maps, layout) = (maps.authorized(&[]).unwrap(), LAYOUT.checked().unwrap());
+    let mut page = [7; 159];
+    let answer = annex_page(&mut page, maps, &layout).map(|_| ());
+    let sentence = "the annex page is longer than the buffer that it is written into";
+    refuses(answer, 27, Refusal::PageTooLong, sentence);
+    assert_eq!(page, [7; 159]);
 }

@@ -1,12 +1,13 @@
-//! Document 01's scene S, as board code has it: maps from edges, tables, walks and an update.
+//! Document 01's scene S, as board code has it: maps from edges, tables, walks, the annex page and
+//! an update.
 //!
-//! It prints what board/example.c prints, and stops where an answer is not document 01's.
+//! It prints what board/example.c prints, and stops where an answer is not the expected one.
 
 mod scene;
 
 use dervhalt_s2::{
-    check_exact, encode, leaf_map_from_edges, verify_encoding, walk, Access, Arena, CheckedLayout,
-    Edge, Error, Maps, Progress, Reach, Span, Update,
+    annex_page, check_exact, encode, leaf_map_from_edges, verify_encoding, walk, Access, Arena,
+    CheckedLayout, Edge, Error, Maps, Progress, Reach, Span, Update, ANNEX_MAX,
 };
 use scene::{DOM, EDGES, FRAMES, LAYOUT};
 
@@ -37,6 +38,14 @@ const WALKS: [(u64, Option<Reach>); 8] = [
     (0x80_8000_1234, None),
 ];
 
+/// All that the guest reaches.
+const PAGE: &str = "\
+0009000000 00091FFFFF 000009000000 RW -
+0080001000 0080001FFF 000050001000 RW -
+00C0400000 00C05FFFFF 000060400000 RO X
+=======================================
+";
+
 fn main() -> Result<(), Error> {
     LAYOUT.validate()?;
     println!("layout: accepted");
@@ -62,6 +71,11 @@ fn main() -> Result<(), Error> {
         assert_eq!(reached, expected);
         print_walk("walk", ipa, reached);
     }
+    let mut page = [0; ANNEX_MAX];
+    let page = annex_page(&mut page, authorized, &layout)?;
+    assert_eq!(page, PAGE);
+    println!("annex page: {} bytes", page.len());
+    print!("{page}");
     update(&mut arena, &layout)
 }
 
