@@ -158,7 +158,7 @@ module _ (base sup : List ℕ) (exempt : Bool) where
           let out : contains w x ≡ false = rw (here, le-leb _ _ reached, le-ltb _ _ past) refl in
           at x e ∙ ap (λ b. pick b (grantedIn (regionIn base sup exempt w) x) Nothing) out
 
-      in-it : (j : ℕ) → j < span → f ws (ipa + j) ≡ grantedIn (regionIn base sup exempt w) (ipa + j)
+      pub in-it : (j : ℕ) → j < span → f ws (ipa + j) ≡ grantedIn (regionIn base sup exempt w) (ipa + j)
       in-it j less =
           let x = ipa + j in
           let e : l1Slot x ≡ s = omega (arith, starts, ends, less, few) in
@@ -166,10 +166,10 @@ module _ (base sup : List ℕ) (exempt : Bool) where
           at x e ∙ ap (λ b. pick b (grantedIn (regionIn base sup exempt w) x) Nothing) there
 
       module _ (n : ℕ) where
-        abbrev rest : ℕ
+        abbrev pub rest : ℕ
         rest = suc s * l1Span - (ipa + span) + n
 
-        to-it : runsFrom (f ws) (s * l1Span) (l1Span + n) ≡ runsFrom (f ws) ipa (span + rest)
+        pub to-it : runsFrom (f ws) (s * l1Span) (l1Span + n) ≡ runsFrom (f ws) ipa (span + rest)
         to-it =
             let lead = ipa - s * l1Span in
             let all : l1Span + n ≡ lead + (span + rest) = omega (arith, starts, ends) in
@@ -179,7 +179,7 @@ module _ (base sup : List ℕ) (exempt : Bool) where
             (λ j less. before-it (s * l1Span + j) (in-slot j (omega (arith, less, starts, ends))) (omega (arith, less, starts)))
             ∙ ap (λ (y : ℕ). runsFrom (f ws) y (span + rest)) there
 
-        from-it : runsFrom (f ws) (ipa + span) rest ≡ runsFrom (f ws) (suc s * l1Span) n
+        pub from-it : runsFrom (f ws) (ipa + span) rest ≡ runsFrom (f ws) (suc s * l1Span) n
         from-it =
             let trail = suc s * l1Span - (ipa + span) in
             let there : ipa + span + trail ≡ suc s * l1Span = omega (arith, ends) in
