@@ -2,6 +2,7 @@
 
 use std::iter::once;
 
+use crate::annex::{self, Annexed};
 use crate::authorized::{self, Granted};
 use crate::dump::{self, Text};
 use crate::encode::{self, Scene};
@@ -161,6 +162,9 @@ pub static ARENAS: [Layer<Arena>; 1] = [verify::LAYER];
 /// The functions that look for a layout's tables in its windows.
 pub static EXPOSED: [Layer<Exposed>; 1] = [exposed::LAYER];
 
+/// The functions that write a page of what a scene reaches.
+pub static ANNEXES: [Layer<Annexed>; 1] = [annex::LAYER];
+
 /// The functions that fill two maps from edges.
 pub static FILLINGS: [Layer<Filling>; 1] = [fill::LAYER];
 
@@ -191,8 +195,8 @@ macro_rules! for_all {
     ($layers:ident => $each:expr) => {
         $crate::function::for_all! {
             $layers => $each,
-            WORDS LAYOUTS SCENES STEPS UPDATES TORN WALKS ENCODINGS WINDOWS ARENAS EXPOSED FILLINGS
-            GRANTED LINKED TEXTS
+            WORDS LAYOUTS SCENES STEPS UPDATES TORN WALKS ENCODINGS WINDOWS ARENAS EXPOSED ANNEXES
+            FILLINGS GRANTED LINKED TEXTS
         }
     };
     ($layers:ident => $each:expr, $($all:ident)*) => {

@@ -1,6 +1,16 @@
 //! Compares the port with its Rust original, compiled unchanged.
 
 mod absent;
+mod annex;
+mod annex_examples;
+mod annex_faults;
+mod annex_inputs;
+mod annex_kinds;
+mod annex_line_faults;
+mod annex_page;
+mod annex_row_faults;
+mod annex_run_faults;
+mod annex_seams;
 mod arenas;
 mod authorized;
 mod authorized_examples;
@@ -38,6 +48,7 @@ mod fill_inputs;
 mod function;
 mod grant_faults;
 mod handed;
+mod handed_annex;
 mod handed_layouts;
 mod handed_maps;
 mod handed_texts;
@@ -58,6 +69,7 @@ mod misread;
 mod number_faults;
 mod p2m;
 mod port;
+mod port_annex;
 mod port_dump;
 mod port_layouts;
 mod port_maps;
