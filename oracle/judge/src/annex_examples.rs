@@ -20,8 +20,10 @@ const DEVICE_OF_S: &str = "0009000000 00091FFFFF 000009000000 RW -";
 const PAGE_OF_S: &str = "0080001000 0080001FFF 000050001000 RW -";
 const SUPER_OF_S: &str = "00C0400000 00C05FFFFF 000060400000 RO X";
 
-/// Changes of scene S, and the lines before the last one that it then has.
-const EXAMPLES: &[(fn(&mut Scene), &[&str])] = &[
+/// A change of scene S, and the lines before the last one that it then has.
+type Example = (fn(&mut Scene), &'static [&'static str]);
+
+const EXAMPLES: &[Example] = &[
     (|_| (), &[DEVICE_OF_S, PAGE_OF_S, SUPER_OF_S]),
     (nothing_reached, &[]),
     (|s| s.base.clear(), &[DEVICE_OF_S, SUPER_OF_S]),
@@ -297,8 +299,13 @@ fn image_at(s: &mut Scene, image: u64) {
     (s.fields[IMAGE_PRESENT], s.fields[IMAGE]) = (1, image);
 }
 
-/// The examples, each with buffers of many lengths. It fails if one has another page.
+/// The examples, each with buffers of many lengths.
 pub fn examples() -> impl Iterator<Item = Annexed> {
+    example_scenes().flat_map(|scene| around_the_page(&scene))
+}
+
+/// The changed scenes, and one of the longest page. It fails if one has another page.
+pub fn example_scenes() -> impl Iterator<Item = Scene> {
     let scenes = EXAMPLES.iter().map(|(change, lines)| {
         let scene = altered(without_arena(scene(SCENE)), change);
         let due: String = lines.iter().map(|line| format!("{line}\n")).collect();
@@ -306,8 +313,7 @@ pub fn examples() -> impl Iterator<Item = Annexed> {
         assert_eq!(found, due + &last_line(), "{scene}");
         scene
     });
-    let scenes = scenes.chain(once_with(of_the_longest_page));
-    scenes.flat_map(|scene| around_the_page(&scene))
+    scenes.chain(once_with(of_the_longest_page))
 }
 
 /// Scene S with an image, 512 supers, and full maps of which each entry differs from the next.

@@ -7,6 +7,9 @@ use crate::annex_faults::{fault, rewritten};
 use crate::annex_page::{access, execute, last_line, line, runs, Run, LINE};
 use crate::function::Fault;
 
+/// Where access stands in a line, after the numbers.
+const ACCESS: usize = 35;
+
 pub const FAULTS: &[Fault<Annexed>] = &[
     fault(
         "annex-lower-case-digits",
@@ -14,7 +17,7 @@ pub const FAULTS: &[Fault<Annexed>] = &[
         |x, reply| {
             relined(x, reply, |run| {
                 let line = line(run);
-                let (numbers, access) = line.split_at(35);
+                let (numbers, access) = line.split_at(ACCESS);
                 numbers.to_ascii_lowercase() + access
             });
         },
@@ -25,7 +28,7 @@ pub const FAULTS: &[Fault<Annexed>] = &[
         |x, reply| {
             relined(x, reply, |run| {
                 let line = line(run);
-                let (numbers, access) = line.split_at(35);
+                let (numbers, access) = line.split_at(ACCESS);
                 numbers.to_string() + &access.to_ascii_lowercase()
             });
         },
@@ -34,14 +37,8 @@ pub const FAULTS: &[Fault<Annexed>] = &[
         "annex-numbers-short",
         "numbers have no zeros before them",
         |x, reply| {
-            relined(x, reply, |run| {
-                format!(
-                    "{:X} {:X} {:X} {}",
-                    run.first,
-                    run.last,
-                    run.reach.pa,
-                    ends(run)
-                )
+            renumbered(x, reply, |first, last, output| {
+                format!("{first:X} {last:X} {output:X}")
             });
         },
     ),
@@ -49,40 +46,22 @@ pub const FAULTS: &[Fault<Annexed>] = &[
         "annex-spaces-for-zeros",
         "numbers have spaces before them",
         |x, reply| {
-            relined(x, reply, |run| {
-                format!(
-                    "{:10X} {:10X} {:12X} {}",
-                    run.first,
-                    run.last,
-                    run.reach.pa,
-                    ends(run)
-                )
+            renumbered(x, reply, |first, last, output| {
+                format!("{first:10X} {last:10X} {output:12X}")
             });
         },
     ),
     fault("annex-decimal", "addresses are decimal", |x, reply| {
-        relined(x, reply, |run| {
-            format!(
-                "{:010} {:010} {:012X} {}",
-                run.first,
-                run.last,
-                run.reach.pa,
-                ends(run)
-            )
+        renumbered(x, reply, |first, last, output| {
+            format!("{first:010} {last:010} {output:012X}")
         });
     }),
     fault(
         "annex-output-of-10-digits",
         "the output has ten digits",
         |x, reply| {
-            relined(x, reply, |run| {
-                format!(
-                    "{:010X} {:010X} {:010X} {}",
-                    run.first,
-                    run.last,
-                    run.reach.pa,
-                    ends(run)
-                )
+            renumbered(x, reply, |first, last, output| {
+                format!("{first:010X} {last:010X} {output:010X}")
             });
         },
     ),
@@ -143,14 +122,8 @@ pub const FAULTS: &[Fault<Annexed>] = &[
         "annex-output-first",
         "the output stands before the addresses",
         |x, reply| {
-            relined(x, reply, |run| {
-                format!(
-                    "{:012X} {:010X} {:010X} {}",
-                    run.reach.pa,
-                    run.first,
-                    run.last,
-                    ends(run)
-                )
+            renumbered(x, reply, |first, last, output| {
+                format!("{output:012X} {first:010X} {last:010X}")
             });
         },
     ),
@@ -173,8 +146,8 @@ pub const FAULTS: &[Fault<Annexed>] = &[
         "execute stands before access",
         |x, reply| {
             relined(x, reply, |run| {
-                let (numbers, end) = (&line(run)[..35], (execute(&run.reach), access(&run.reach)));
-                format!("{numbers}{} {}\n", end.0, end.1)
+                let numbers = &line(run)[..ACCESS];
+                format!("{numbers}{} {}\n", execute(&run.reach), access(&run.reach))
             });
         },
     ),
@@ -291,10 +264,18 @@ pub const FAULTS: &[Fault<Annexed>] = &[
 ];
 
 /// Writes other lines in the place of all but the last.
-fn relined(x: &Annexed, reply: &mut Written, line: fn(&Run) -> String) {
+fn relined(x: &Annexed, reply: &mut Written, line: impl Fn(&Run) -> String) {
     rewritten(x, reply, |_| {
         let lines: String = runs(&x.scene).iter().map(line).collect();
         (lines + &last_line()).into_bytes()
+    });
+}
+
+/// Writes other numbers into these lines.
+fn renumbered(x: &Annexed, reply: &mut Written, numbers: fn(u64, u64, u64) -> String) {
+    relined(x, reply, |run| {
+        let numbers = numbers(run.first, run.last, run.reach.pa);
+        format!("{numbers} {}", &line(run)[ACCESS..])
     });
 }
 
@@ -310,9 +291,4 @@ fn last_lined(x: &Annexed, reply: &mut Written, last: fn(&str) -> String) {
 fn reaching(run: &Run, pa: u64) -> Run {
     let reach = Reach { pa, ..run.reach };
     Run { reach, ..*run }
-}
-
-/// What a line has after its numbers.
-fn ends(run: &Run) -> String {
-    format!("{} {}\n", access(&run.reach), execute(&run.reach))
 }
