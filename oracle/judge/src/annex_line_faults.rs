@@ -5,7 +5,9 @@ use given_s2::arm64::Reach;
 use crate::annex::{Annexed, Written};
 use crate::annex_faults::{fault, rewritten};
 use crate::annex_page::{access, execute, last_line, line, runs, Run, LINE};
+use crate::annex_run_faults::window_of;
 use crate::function::Fault;
+use crate::layout::EXEMPT;
 
 /// Where access stands in a line, after the numbers.
 const ACCESS: usize = 35;
@@ -169,6 +171,17 @@ pub const FAULTS: &[Fault<Annexed>] = &[
                     true => line.replace('-', "X"),
                     false => line.replace('X', "-"),
                 }
+            });
+        },
+    ),
+    fault(
+        "annex-exempt-data",
+        "the exemption is the pages' too",
+        |x, reply| {
+            let exempt = x.scene.fields[EXEMPT] != 0;
+            relined(x, reply, |run| match window_of(&x.scene, run.first) {
+                Some(2) if exempt => line(run).replace("RW -", "RW X"),
+                _ => line(run),
             });
         },
     ),

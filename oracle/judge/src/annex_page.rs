@@ -64,7 +64,7 @@ fn neighbours(scene: &Scene) -> Vec<Neighbours> {
     let (base, sup) = (maps::entries(&scene.base), maps::entries(&scene.sup));
     let reach = |address| window_reach(&layout, &base, &sup, address);
     let mut borders: Vec<u64> = windows(&scene.fields).flat_map(borders).collect();
-    borders.sort_unstable();
+    borders.sort();
     borders.dedup();
     let neighbours = borders.into_iter().map(|address| Neighbours {
         address,

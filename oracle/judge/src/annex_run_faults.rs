@@ -259,7 +259,8 @@ impl Neighbours {
     }
 }
 
-fn window_of(scene: &Scene, address: u64) -> Option<u64> {
+/// The code of the window that holds an address.
+pub fn window_of(scene: &Scene, address: u64) -> Option<u64> {
     let holds = |window: &Window| (window.ipa..window.ipa + window.span as u64).contains(&address);
     windows(&scene.fields).find(holds).map(|window| window.code)
 }
