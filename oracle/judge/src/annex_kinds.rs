@@ -52,7 +52,9 @@ pub const MEETING: &[Answer] = &[
     ("super to device", crossed::<3, 4>),
     ("device to data", crossed::<4, 2>),
     ("device to super", crossed::<4, 3>),
-    ("across three windows", |told| told[MOST_WINDOWS] == 3),
+    ("across three windows", |told| {
+        row::<0>(told) && told[MOST_WINDOWS] == 3
+    }),
     ("nothing before", stopped::<NOTHING_BEFORE>),
     ("nothing after", stopped::<NOTHING_AFTER>),
     ("another output", stopped::<OUTPUT>),

@@ -2,7 +2,8 @@
 
 use crate::annex::{Annexed, Written};
 use crate::annex_faults::fault;
-use crate::annex_page::{page, runs_where, text, LINE, LONGEST};
+use crate::annex_page::{goes_on, page, runs_where, text, Neighbours, LINE, LONGEST};
+use crate::annex_run_faults::next_output;
 use crate::encode::{row_13, row_14, row_2};
 use crate::encode_inputs::unmap_past_frames;
 use crate::function::{with, Fault};
@@ -52,6 +53,27 @@ pub const FAULTS: &[Fault<Annexed>] = &[
             if reply.written().is_some() && x.buffer.len() < pieces() {
                 refuse(x, reply, words([27]));
             }
+        },
+    ),
+    fault(
+        "annex-row-27-cut-at-windows",
+        "the buffer must have room for runs that end with their windows",
+        |x, reply| {
+            let cut = |two: &Neighbours| goes_on(two) && !two.in_two_windows(&x.scene);
+            let needed = || text(&runs_where(&x.scene, cut)).len();
+            if reply.written().is_some() && x.buffer.len() < needed() {
+                refuse(x, reply, words([27]));
+            }
+        },
+    ),
+    fault(
+        "annex-row-27-joined-at-windows",
+        "the buffer must have room for runs that go on where windows meet, whatever the access",
+        |x, reply| {
+            let joined = |two: &Neighbours| {
+                goes_on(two) || two.in_two_windows(&x.scene) && two.both(next_output)
+            };
+            cut_off(x, reply, |_| text(&runs_where(&x.scene, joined)).len());
         },
     ),
     fault(
@@ -332,7 +354,7 @@ fn refuse(x: &Annexed, reply: &mut Written, refusal: Outcome) {
 
 /// Where row 27 refuses, accepts a buffer that has room for so much of the page, and writes what
 /// there is room for.
-fn cut_off(x: &Annexed, reply: &mut Written, needed: fn(&[u8]) -> usize) {
+fn cut_off(x: &Annexed, reply: &mut Written, needed: impl Fn(&[u8]) -> usize) {
     if reply.outcome[0] == 27 {
         let page = page(&x.scene);
         let room = x.buffer.len();

@@ -247,13 +247,13 @@ impl Neighbours {
         [before, Some(self.address)].map(|address| window_of(scene, address?))
     }
 
-    fn in_two_windows(&self, scene: &Scene) -> bool {
+    pub fn in_two_windows(&self, scene: &Scene) -> bool {
         let [before, here] = self.windows(scene);
         before != here
     }
 
     /// Whether both are reached, and what they reach is as is asked.
-    fn both(&self, asked: impl Fn(&Reach, &Reach) -> bool) -> bool {
+    pub fn both(&self, asked: impl Fn(&Reach, &Reach) -> bool) -> bool {
         let both = self.before.as_ref().zip(self.here.as_ref());
         both.is_some_and(|(before, here)| asked(before, here))
     }
@@ -265,7 +265,7 @@ pub fn window_of(scene: &Scene, address: u64) -> Option<u64> {
     windows(&scene.fields).find(holds).map(|window| window.code)
 }
 
-fn next_output(one: &Reach, next: &Reach) -> bool {
+pub fn next_output(one: &Reach, next: &Reach) -> bool {
     one.pa + 1 == next.pa
 }
 

@@ -76,13 +76,13 @@ fn set_entries(scene: &mut Scene, first: Place, second: Place, entries: [u8; 2])
     }
 }
 
-/// The scene with a buffer that its page fills, but for so many bytes.
-fn filled(scene: Scene, left: usize) -> Annexed {
-    let len = match rows_2_to_14(&scene) {
+/// The scene with a buffer of the length that follows from the page's.
+fn with_buffer(scene: Scene, len: impl FnOnce(usize) -> usize) -> Annexed {
+    let page_len = match rows_2_to_14(&scene) {
         None => page(&scene).len(),
         Some(_) => LINE,
     };
-    lent(scene, len + left, len)
+    lent(scene, len(page_len), page_len)
 }
 
 /// Each two windows at both ends of the addresses and between, with every entry on both sides,
@@ -98,7 +98,7 @@ pub fn seams() -> impl Iterator<Item = Annexed> {
             let (exempt, gap) = (rest % 2, rest / 2 % 2);
             let entries = [rest / 4 % 4, rest / 16].map(|entry| entry as u8);
             let scene = seam(pair, slot, exempt as u64, gap as u64 * BLOCK, entries);
-            filled(scene, 0)
+            with_buffer(scene, |len| len)
         })
     })
 }
@@ -125,10 +125,17 @@ fn seam(pair: [Place; 2], slot: u64, exempt: u64, gap: u64, entries: [u8; 2]) ->
     scene
 }
 
+/// The buffers are as long as the page, or a byte or a line longer or shorter.
 pub fn meeting(round: Round) -> impl Iterator<Item = Annexed> {
-    random(round.seeded(105), 36_000, |random| {
+    random(round.seeded(105), 46_000, |random| {
         let scene = meeting_scene(random);
-        filled(scene, random.pick(&[0, 0, 0, 1, LINE as u64]) as usize)
+        with_buffer(scene, |len| match random.below(9) {
+            0 => len - 1,
+            1 => len - LINE,
+            2 => len + 1,
+            3 => len + LINE,
+            _ => len,
+        })
     })
 }
 

@@ -20,7 +20,7 @@ use crate::updates::{self, List};
 use crate::verify::{self, Arena};
 use crate::walk::{self, Walk};
 use crate::windows::{self, Windowed};
-use crate::{absent, annexed, desc, dump, p2m, regime};
+use crate::{absent, annex_text, desc, dump, p2m, regime};
 
 /// What a function is asked.
 pub trait Input: 'static {
@@ -176,7 +176,7 @@ pub static GRANTED: [Layer<Granted>; 1] = [authorized::LAYER];
 pub static LINKED: [Layer<Linked>; 1] = [exact::LAYER];
 
 /// The programs that read a scene.
-pub static TEXTS: [Layer<Text>; 2] = [dump::LAYER, annexed::LAYER];
+pub static TEXTS: [Layer<Text>; 2] = [dump::LAYER, annex_text::LAYER];
 
 pub fn functions<I: Input>(
     layers: &'static [Layer<I>],

@@ -2,7 +2,7 @@
 
 use crate::function::Fault;
 use crate::programs::Text;
-use crate::{annexed_faults, dump_faults};
+use crate::{annex_text_faults, dump_faults};
 
 /// Faults in what a program is fed and in what is read of it.
 macro_rules! fed_otherwise {
@@ -44,4 +44,4 @@ macro_rules! fed_otherwise {
 
 pub const DUMP: &[&[Fault<Text>]] = &[fed_otherwise!("dump", dump_faults)];
 
-pub const ANNEX: &[&[Fault<Text>]] = &[fed_otherwise!("annexed", annexed_faults)];
+pub const ANNEX: &[&[Fault<Text>]] = &[fed_otherwise!("annex-text", annex_text_faults)];

@@ -1,7 +1,7 @@
 //! The programs that read a scene as text, and what they print alike.
 //!
 //! What they read, and how they tell of a bad line and of a refused scene, is document 01's section
-//! "Proved and printed". What they print of an accepted scene stands in dump.rs and annexed.rs.
+//! "Proved and printed". What they print of an accepted scene stands in dump.rs and annex_text.rs.
 
 use std::iter::once;
 

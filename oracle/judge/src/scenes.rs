@@ -3,7 +3,7 @@
 use std::fs;
 use std::path::{Path, PathBuf};
 
-use crate::annexed::annexed;
+use crate::annex_text::annex_text;
 use crate::dump::dump;
 use crate::programs::{Printed, Text};
 
@@ -11,7 +11,7 @@ use crate::programs::{Printed, Text};
 type Held = (&'static str, fn(&Text) -> Printed);
 
 /// What each program prints.
-const PRINTED: [Held; 2] = [("out", dump), ("annex", annexed)];
+const PRINTED: [Held; 2] = [("out", dump), ("annex", annex_text)];
 
 /// Writes what is printed for each scene.
 pub fn write(folder: &str) -> Result<(), String> {

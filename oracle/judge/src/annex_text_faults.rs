@@ -8,7 +8,7 @@ use crate::reading_faults::{finished_lines, replaced, reversed_lines};
 
 pub const FAULTS: &[Fault<Text>] = &[
     fault(
-        "annexed-words",
+        "annex-text-words",
         "the words are printed that the scene is encoded to",
         |text, printed| {
             let words = with_op(text, (Program::Dump, Lines::Good), |_| ());
@@ -16,7 +16,7 @@ pub const FAULTS: &[Fault<Text>] = &[
         },
     ),
     fault(
-        "annexed-whole-buffer",
+        "annex-text-whole-buffer",
         "after the page the rest of the buffer is printed",
         |_, printed| {
             if printed.accepted() {
@@ -25,7 +25,7 @@ pub const FAULTS: &[Fault<Text>] = &[
         },
     ),
     fault(
-        "annexed-bytes-after",
+        "annex-text-bytes-after",
         "how long the page is stands after it",
         |_, printed| {
             if printed.accepted() {
@@ -35,7 +35,7 @@ pub const FAULTS: &[Fault<Text>] = &[
         },
     ),
     fault(
-        "annexed-without-last-line",
+        "annex-text-without-last-line",
         "the last line is not printed",
         |_, printed| {
             if printed.accepted() {
@@ -44,7 +44,7 @@ pub const FAULTS: &[Fault<Text>] = &[
         },
     ),
     fault(
-        "annexed-without-last-line-feed",
+        "annex-text-without-last-line-feed",
         "the last line does not end",
         |_, printed| {
             if printed.accepted() {
@@ -53,7 +53,7 @@ pub const FAULTS: &[Fault<Text>] = &[
         },
     ),
     fault(
-        "annexed-nothing-silent",
+        "annex-text-nothing-silent",
         "where nothing is reached nothing is printed",
         |_, printed| {
             if printed.stdout.starts_with(b"=") {
@@ -62,12 +62,12 @@ pub const FAULTS: &[Fault<Text>] = &[
         },
     ),
     fault(
-        "annexed-64-lines",
+        "annex-text-64-lines",
         "no more than 64 lines are printed",
         |_, printed| printed.stdout.truncate(64 * LINE),
     ),
     fault(
-        "annexed-refused-hexadecimal",
+        "annex-text-refused-hexadecimal",
         "the row's number is printed in hexadecimal",
         |_, printed| {
             if let Some(row) = printed.refused() {
@@ -76,7 +76,7 @@ pub const FAULTS: &[Fault<Text>] = &[
         },
     ),
     fault(
-        "annexed-refused-status",
+        "annex-text-refused-status",
         "a refused scene is a failure",
         |_, printed| {
             if printed.refused().is_some() {
@@ -85,7 +85,7 @@ pub const FAULTS: &[Fault<Text>] = &[
         },
     ),
     fault(
-        "annexed-refused-last-line",
+        "annex-text-refused-last-line",
         "of a refused scene the last line of a page is printed",
         |_, printed| {
             if printed.refused().is_some() {
@@ -95,12 +95,12 @@ pub const FAULTS: &[Fault<Text>] = &[
         },
     ),
     fault(
-        "annexed-first-line-counts",
+        "annex-text-first-line-counts",
         "a later line does not replace an earlier one",
         |text, printed| *printed = with(text, reversed_lines),
     ),
     fault(
-        "annexed-unfinished-line-left-out",
+        "annex-text-unfinished-line-left-out",
         "a last line without a line feed is not read",
         |text, printed| {
             if !text.0.ends_with(b"\n") {
@@ -109,12 +109,12 @@ pub const FAULTS: &[Fault<Text>] = &[
         },
     ),
     fault(
-        "annexed-supers-as-pages",
+        "annex-text-supers-as-pages",
         "supers are put in the base map",
         |text, printed| *printed = with(text, |text| text.0 = replaced(&text.0, b'U', b'B')),
     ),
     bad_line_fault(
-        "annexed-page-before-bad-line",
+        "annex-text-page-before-bad-line",
         "the page of the good lines is printed before a bad one is told",
         |text, printed| {
             let good = with(text, keep_good_lines);
@@ -122,17 +122,17 @@ pub const FAULTS: &[Fault<Text>] = &[
         },
     ),
     bad_line_fault(
-        "annexed-bad-line-skipped",
+        "annex-text-bad-line-skipped",
         "a bad line is not told",
         |text, printed| *printed = with(text, keep_good_lines),
     ),
     bad_line_fault(
-        "annexed-bad-line-status",
+        "annex-text-bad-line-status",
         "a bad line is a failure",
         |_, printed| printed.status = Some(1),
     ),
     bad_line_fault(
-        "annexed-bad-line-without-line-feed",
+        "annex-text-bad-line-without-line-feed",
         "the line that tells of a bad one does not end",
         |_, printed| _ = printed.stdout.pop(),
     ),

@@ -4,7 +4,7 @@
 //! annex_page.rs.
 
 use crate::annex_page::page;
-use crate::annexed_faults::FAULTS;
+use crate::annex_text_faults::FAULTS;
 use crate::dump_inputs::{bad_texts, example_texts, mangled_texts, page_texts, texts};
 use crate::encode::Scene;
 use crate::function::{answers, Answer, Function, Layer};
@@ -18,7 +18,7 @@ pub const LAYER: Layer<Text> = Layer {
             call: "s2annex",
             name: "s2annex",
             op: (Program::Annex, Lines::Good),
-            original: annexed,
+            original: annex_text,
             boundary: || Box::new(example_texts().chain(page_texts())),
             sweep: |round| Box::new(texts(round)),
             answers: ANSWERS,
@@ -29,7 +29,7 @@ pub const LAYER: Layer<Text> = Layer {
             call: "s2annex",
             name: "s2annex, bad lines",
             op: (Program::Annex, Lines::Bad),
-            original: annexed,
+            original: annex_text,
             boundary: || Box::new(bad_texts()),
             sweep: |round| Box::new(mangled_texts(round)),
             answers: BAD,
@@ -43,7 +43,7 @@ pub const LAYER: Layer<Text> = Layer {
 
 const ANSWERS: &[Answer] = answers!([("page", row::<0>)] 4 5 6 7 8 9 10 11 12 13 14);
 
-pub fn annexed(text: &Text) -> Printed {
+pub fn annex_text(text: &Text) -> Printed {
     printed(text, printed_page)
 }
 
