@@ -19,10 +19,13 @@ fn line(input: &str, scene: &Both) {
     let mut page = [0; LONGEST];
     let mut values = [0; 8];
     calls::annex(scene, &mut page, &mut values);
-    let runs = grouped(values[0] / LINE as u64 - 1);
+    let runs = match values[0] / LINE as u64 - 1 {
+        1 => "1 run".into(),
+        runs => grouped(runs) + " runs",
+    };
     let line = Line {
         call: "s2_annex",
-        input: &format!("a page of {runs} runs; {input}"),
+        input: &format!("a page of {runs}; {input}"),
         beside: "not the Rust: the port's `s2_encode`",
         alike: false,
     };
