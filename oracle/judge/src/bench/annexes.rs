@@ -18,7 +18,10 @@ pub fn lines() {
 fn line(input: &str, scene: &Both) {
     let mut page = [0; LONGEST];
     let mut values = [0; 8];
-    calls::annex(scene, &mut page, &mut values);
+    assert!(
+        calls::annex(scene, &mut page, &mut values),
+        "{input}: no page"
+    );
     let runs = match values[0] / LINE as u64 - 1 {
         1 => "1 run".into(),
         runs => grouped(runs) + " runs",
