@@ -15,7 +15,7 @@ ghost use lib.ListN.{getD};
 ghost use Rattle.accepted_facts.specs.Guarded.{Guarded};
 ghost use Rattle.annex.specs.Annex.{addressCount, annexPage, AnnexAnswer, annexOf};
 ghost use Rattle.annex.specs.Windows.{regionIn, grantedOver, hasSlot, lowerSlot, NextSlot, Sited, Placed};
-ghost use Rattle.annex.specs.Writing.{beginning, Written, Onward, Across, pieceBefore, begunLength, lineAt, lengthened, ProperBegun, Sound};
+ghost use Rattle.annex.specs.Writing.{beginning, Written, Onward, Across, pieceBefore, begunLength, lineAt, lengthened, lower, ProperBegun, Sound};
 ghost use Rattle.layout.specs.Size.{entries, page as pageSize, l1Span, inputLimit, boardLimit};
 ghost use Rattle.refusal.specs.Table.{accepted, first};
 ghost use Rattle.rows.specs.Rows.{guardRows};
@@ -235,7 +235,7 @@ fn write_window(
     }
 }
 
-// Pieces of one size, each by its entry.
+// Pieces of one size, each by its entry; past the map there is none.
 fn write_pieces(
     page: &mut [u8],
     map: &[u8],
@@ -255,7 +255,8 @@ fn write_pieces(
         done (now (page .entry)) r (now (page .exit)) ⌝ }
 {
     let mut done = done;
-    for p in 0..count {
+    let end = lower(count, map.len() as u64);
+    for p in 0..end {
         let entry = map_entries::entry_at(map, p as usize);
         done = write_piece(
             page,
@@ -268,6 +269,15 @@ fn write_pieces(
         );
     }
     done
+}
+
+fn lower(a: u64, b: u64) -> u64
+    ensures { λ r. ⌜ r ≡ lower a b ⌝ }
+{
+    if b < a {
+        return b;
+    }
+    a
 }
 
 // Addresses whose output is continuous, by one entry.

@@ -21,8 +21,8 @@ Inv-loop page₀ base sup ws exempt done₀ s₀ page done s =
     × (length page ≡ length page₀)
     × (Sound done (s * l1Span))
     × ((n : ℕ) →
-      let f = grantedOver base sup exempt ws in
-      Onward beginning page₀ (runsFrom f 0 (inputLimit + n)) done page (runsFrom f (s * l1Span) ((entries - s) * l1Span + n)))
+    let f = grantedOver base sup exempt ws in
+    Onward beginning page₀ (runsFrom f 0 (inputLimit + n)) done page (runsFrom f (s * l1Span) ((entries - s) * l1Span + n)))
 
 abbrev μ-loop : tie.MeasureT-loop
 μ-loop page₀ base sup ws exempt done₀ s₀ page done s = entries - s
