@@ -258,15 +258,17 @@ fn write_pieces(
     let end = lower(count, map.len() as u64);
     for p in 0..end {
         let entry = map_entries::entry_at(map, p as usize);
-        done = write_piece(
-            page,
-            ipa + p * size,
-            pa + p * size,
-            size,
-            exempt,
-            entry,
-            done,
-        );
+        if entry != 0 {
+            done = write_piece(
+                page,
+                ipa + p * size,
+                pa + p * size,
+                size,
+                exempt,
+                entry,
+                done,
+            );
+        }
     }
     done
 }
