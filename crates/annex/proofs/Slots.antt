@@ -81,7 +81,7 @@ all-of P d [] each = tt
 all-of P d (x ∷ xs) each = (each 0 (omega arith), all-of P d xs (λ k h. each (suc k) (omega (arith, h))))
 
 module _ (base sup : List ℕ) (exempt : Bool) where
-  region-window : (w : Window) → regionIn base sup exempt w .window ≡ w
+  pub region-window : (w : Window) → regionIn base sup exempt w .window ≡ w
   region-window w = go (eqb (w .code) 1) (eqb (w .code) 2) (eqb (w .code) 3) refl refl refl
     where
       go : (a b c : Bool) → eqb (w .code) 1 ≡ a → eqb (w .code) 2 ≡ b → eqb (w .code) 3 ≡ c → regionIn base sup exempt w .window ≡ w
@@ -115,7 +115,7 @@ module _ (base sup : List ℕ) (exempt : Bool) where
         go true false p q = refl
         go true true p q = absurd (apart here p (same ∙ sym (eqb-true _ _ q)))
 
-    first-window : (w : Window) (ws : List Window) → f (w ∷ ws) x ≡ pick (contains w x) (grantedIn (regionIn base sup exempt w) x) (f ws x)
+    pub first-window : (w : Window) (ws : List Window) → f (w ∷ ws) x ≡ pick (contains w x) (grantedIn (regionIn base sup exempt w) x) (f ws x)
     first-window w ws = go (contains w x) refl
       where
         go : (b : Bool) → contains w x ≡ b → f (w ∷ ws) x ≡ pick b (grantedIn (regionIn base sup exempt w) x) (f ws x)
@@ -243,11 +243,13 @@ module _ (base sup : List ℕ) (exempt : Bool) where
       ∙ ap (λ (t : ℕ). runsFrom (f ws) (t * l1Span) ((entries - t) * l1Span + n)) onward
 
   -- past the last slot
+  pub past-windows : (ws : List Window) → All (λ w. w .present ≡ true → Sited w) ws → (x : ℕ) → inputLimit ≤ x → f ws x ≡ Nothing
+  past-windows ws sited x h = no-window x ws (all-past ws sited)
+    where
+      all-past : (vs : List Window) → All (λ w. w .present ≡ true → Sited w) vs → All (λ w. contains w x ≡ false) vs
+      all-past [] a = tt
+      all-past (v ∷ vs) a = (past-limit boardLimit v x (λ p. a .0 p .within) h, all-past vs (a .1))
+
   pub past-slots : (ws : List Window) → Placed ws → (n : ℕ) → runsFrom (f ws) inputLimit (n + 0) ≡ []
   unfolding runsFrom
-  past-slots ws placed n =
-      gap (f ws) n inputLimit 0 (λ i h. no-window (inputLimit + i) ws (all-past (inputLimit + i) (omega arith) ws (placed .each)))
-    where
-      all-past : (x : ℕ) → inputLimit ≤ x → (vs : List Window) → All (λ w. w .present ≡ true → Sited w) vs → All (λ w. contains w x ≡ false) vs
-      all-past x h [] a = tt
-      all-past x h (v ∷ vs) a = (past-limit boardLimit v x (λ p. a .0 p .within) h, all-past x h vs (a .1))
+  past-slots ws placed n = gap (f ws) n inputLimit 0 (λ i h. past-windows ws (placed .each) (inputLimit + i) (omega arith))
