@@ -1,5 +1,5 @@
 -- The runs of an accepted layout, computed window by window: slot by slot of table 1, and each window by its pieces.
-use Prim.Native.Nat.{ℕ, zero, suc, _+_, _-_, _*_, _/_, _%_, _<_}
+use Prim.Native.Nat.{ℕ, zero, suc, _+_, _-_, _*_, _/_, _<_}
 use mathlib.Core.Bool.{Bool, true, false}
 use mathlib.Core.List.{List, [], _∷_}
 use mathlib.Core.Path.{_≡_, refl, sym, ap, ap₂, _∙_}
@@ -11,7 +11,7 @@ use Rattle.accepted_facts.proofs.Guarded.{guarded-facts}
 use Rattle.annex.proofs.Across.{granted-at, image-region, data-region, super-region, device-region}
 use Rattle.annex.proofs.Pieces.{one-entry, onFrom, from-first, from-last, next-piece}
 use Rattle.annex.proofs.Placed.{placed, grants}
-use Rattle.annex.proofs.Slots.{has, empty-slot, rest, to-it, from-it, in-it, past-slots}
+use Rattle.annex.proofs.Slots.{has, empty-slot, to-it, from-it, in-it, past-slots}
 use Rattle.annex.specs.Annex.{addressCount, annexRuns}
 use Rattle.annex.specs.Windows.{regionIn, grantedOver, hasSlot, Sited, Placed}
 use Rattle.annex.specs.Writing.{pieceBefore}
@@ -29,7 +29,7 @@ use Rattle.refusal.specs.Table.{accepted, first}
 use Rattle.rows.specs.Rows.{guardRows}
 use Rattle.runs.specs.Runs.{runsFrom}
 use Rattle.runs.specs.declared.Run.{Run}
-use Rattle.window_reach.specs.Granted.{Region, region, deviceRegion, byEntry, grantedIn}
+use Rattle.window_reach.specs.Granted.{Region, region, byEntry, grantedIn}
 
 -- n pieces of one size from piece p on, each by its entry, before the runs that follow
 unfoldable pub pieceRuns : ℕ → ℕ → ℕ → Bool → (ℕ → ℕ) → ℕ → ℕ → List Run → List Run
