@@ -167,7 +167,7 @@ layout-pieces l facts =
       device-pieces l,
     )
 
-page-length : (rs : List Run) → length (pageOf rs) ≡ suc (length rs) * lineLength
+pub page-length : (rs : List Run) → length (pageOf rs) ≡ suc (length rs) * lineLength
 page-length [] = ap length page-none ∙ last-length
 page-length (r ∷ rs) =
     ap length (page-next r rs)
