@@ -5,8 +5,11 @@ use mathlib.Core.List.{List}
 use mathlib.Core.Path.{_≡_, refl, sym, ap, ap₂, _∙_}
 use native.Mathlib.Nat.{zero-mul, suc-mul, mul-add-div-right, div-eq-of-lt, mul-le-mul-right}
 use native.Mathlib.Omega.{arith}
-use lib.Dec.{eqb}
-use Rattle.annex.specs.Writing.{pieceBefore}
+use lib.Dec.{eqb, ltb}
+use lib.ListN.{length, getD, List·getD-eq-default}
+use borrow.Author.Tests.{ltb-true}
+use Rattle.fields.specs.Named.{pick}
+use Rattle.annex.specs.Writing.{pieceBefore, lower}
 use Rattle.reach.specs.declared.Reached.{Reached}
 use Rattle.reach.specs.declared.Reached.the-variants.{At, Nothing}
 use Rattle.runs.proofs.Pieces.{further, gap, piece}
@@ -47,6 +50,14 @@ module _ (f : ℕ → Reached) (x size n : ℕ) (some : 0 < size) where
       runsFrom f x (size + n) ≡ pieceBefore x (x + (size - 1)) (byEntry pa exempt e) (runsFrom f (x + size) n)
   one-entry pa exempt e all = by-first (byEntry pa exempt e) (λ i h. all i h ∙ by-entry-moved pa i exempt e)
 
+-- the lower of two
+pub lower-first : (a b : ℕ) → lower a b ≤ a
+lower-first a b = go (ltb b a) refl
+  where
+    go : (t : Bool) → ltb b a ≡ t → pick t b a ≤ a
+    go true e = let h : b < a = ltb-true b a e in omega (arith, h)
+    go false e = omega arith
+
 pub piece-ends : (count size p : ℕ) → p < count → p * size + size ≤ count * size
 piece-ends count size p h = omega (arith, mul-le-mul-right size h, suc-mul p size)
 
@@ -65,6 +76,40 @@ module _ (f : ℕ → Reached) (ipa count size n : ℕ) where
   from-last =
       let none : count * size - count * size + n ≡ n = omega arith in
       ap (runsFrom f (ipa + count * size)) none
+
+  module _
+      (pa : ℕ) (exempt : Bool) (entry : ℕ → ℕ) (some : 0 < size)
+      (grants : (i : ℕ) → i < count * size → f (ipa + i) ≡ byEntry (pa + i) exempt (entry (i / size)))
+      (p : ℕ)
+    where
+      -- no entry from p on maps
+      none-from : p ≤ count → ((q : ℕ) → p ≤ q → entry q ≡ 0) → onFrom f ipa count size n p ≡ onFrom f ipa count size n count
+      none-from few unmapped =
+          let x = ipa + p * size in
+          let left = count * size - p * size in
+          let ends = mul-le-mul-right size few in
+          let there : x + left ≡ ipa + count * size = omega (arith, ends) in
+          let none : n ≡ count * size - count * size + n = omega arith in
+          gap f left x n
+          (λ i h. let at : x + i ≡ ipa + (p * size + i) = omega arith in
+          let more : p ≤ (p * size + i) / size = omega (arith, mul-add-div-right some p i) in
+          ap f at
+          ∙ grants (p * size + i) (omega (arith, h))
+          ∙ ap (byEntry (pa + (p * size + i)) exempt) (unmapped ((p * size + i) / size) more))
+          ∙ ap₂ (runsFrom f) there none
+
+  -- past the map there are none
+  pub past-map :
+      (pa : ℕ) (exempt : Bool) (map : List ℕ) → 0 < size →
+      ((i : ℕ) → i < count * size → f (ipa + i) ≡ byEntry (pa + i) exempt (getD map (i / size) 0)) →
+      onFrom f ipa count size n (lower count (length map)) ≡ onFrom f ipa count size n count
+  past-map pa exempt map some grants = go (ltb (length map) count) refl
+    where
+      go : (t : Bool) → ltb (length map) count ≡ t → onFrom f ipa count size n (pick t (length map) count) ≡ onFrom f ipa count size n count
+      go true e =
+          let h : length map < count = ltb-true (length map) count e in
+          none-from pa exempt (λ q. getD map q 0) some grants (length map) (omega (arith, h)) (λ q more. List·getD-eq-default map 0 more)
+      go false e = refl
 
   module _
       (pa : ℕ) (exempt : Bool) (entry : ℕ → ℕ) (some : 0 < size)

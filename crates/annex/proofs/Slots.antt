@@ -7,9 +7,9 @@ use native.Mathlib.Nat.{le-of-suc-le-suc, not-suc-le-zero}
 use native.Mathlib.Omega.{arith}
 use lib.Dec.{eqb, leb, ltb}
 use lib.ListN.{length, getD}
-use borrow.Author.Tests.{eqb-true, ltb-true, ltb-false, lt-leb, le-leb, le-ltb}
+use borrow.Author.Tests.{eqb-true, ne-eqb, leb-true, leb-false, ltb-true, ltb-false, lt-leb, le-leb, le-ltb}
 use Rattle.accepted_facts.specs.Accepted.{Within}
-use Rattle.annex.specs.Windows.{regionIn, grantedOver, hasSlot, Sited, Placed}
+use Rattle.annex.specs.Windows.{regionIn, grantedOver, hasSlot, lowerSlot, Sited, Placed}
 use Rattle.annex.specs.Writing.{resumed, Written, Onward, Across}
 use Rattle.annex.specs.declared.Progress.{Progress}
 use Rattle.fields.specs.Named.{pick}
@@ -36,6 +36,36 @@ has s w e = go (w .present) (eqb (slot w) s) refl refl e
     go true true p q t = (p, eqb-true _ _ q)
     go true false p q t = absurd (false≢true t)
     go false b p q t = absurd (false≢true t)
+
+-- the lower of two slots, and what has none before it
+pub lowered :
+    (w : Window) (from next : ℕ) →
+    let r = lowerSlot w from next in
+    (r ≤ next) × (from ≤ next → from ≤ r) × ((s : ℕ) → from ≤ s → s < r → hasSlot s w ≡ false)
+lowered w from next = go (w .present) (leb from (slot w)) (ltb (slot w) next) refl refl refl
+  where
+    elsewhere-than : (s : ℕ) → (slot w ≡ s → ⊥) → hasSlot s w ≡ false
+    elsewhere-than s other = absent (w .present)
+      where
+        absent : (p : Bool) → (p && eqb (slot w) s) ≡ false
+        absent true = ne-eqb _ _ other
+        absent false = refl
+
+    go :
+        (a b c : Bool) → w .present ≡ a → leb from (slot w) ≡ b → ltb (slot w) next ≡ c →
+        let r = pick (a && b && c) (slot w) next in
+        (r ≤ next) × (from ≤ next → from ≤ r) × ((s : ℕ) → from ≤ s → s < r → hasSlot s w ≡ false)
+    go false b c p q t = (omega arith, λ h. h, λ s h k. rw p refl)
+    go true false c p q t =
+        let less : slot w < from = leb-false from (slot w) q in
+        (omega arith, λ h. h, λ s h k. elsewhere-than s (λ e. omega (arith, e, less, h)))
+    go true true false p q t =
+        let more : next ≤ slot w = ltb-false (slot w) next t in
+        (omega arith, λ h. h, λ s h k. elsewhere-than s (λ e. omega (arith, e, more, k)))
+    go true true true p q t =
+        let more : from ≤ slot w = leb-true from (slot w) q in
+        let less : slot w < next = ltb-true (slot w) next t in
+        (omega (arith, less), λ h. more, λ s h k. elsewhere-than s (λ e. omega (arith, e, k)))
 
 -- one place more
 pub up-to : (P : ℕ → Type 0) (i : ℕ) → ((k : ℕ) → k < i → P k) → P i → (k : ℕ) → k < suc i → P k
@@ -195,6 +225,22 @@ module _ (base sup : List ℕ) (exempt : Bool) where
           subst (λ (rs : List Run). Written text old (pageOf (resumed (q .begun) rs)) (q .at) left) (from-it n)
           (across (f ws) (rest n) in-it text old
           (subst (λ (rs : List Run). Written text old (pageOf (resumed (p .begun) rs)) (p .at) bytes) (to-it n) wr))
+
+  -- slots without a window, one after the other
+  pub empty-slots :
+      (ws : List Window) → Placed ws → (k s n : ℕ) → s + k ≤ entries →
+      ((t : ℕ) → s ≤ t → t < s + k → All (λ w. hasSlot t w ≡ false) ws) →
+      runsFrom (f ws) (s * l1Span) ((entries - s) * l1Span + n) ≡ runsFrom (f ws) ((s + k) * l1Span) ((entries - (s + k)) * l1Span + n)
+  empty-slots ws placed zero s n h none =
+      let same : s ≡ s + 0 = omega arith in ap (λ (t : ℕ). runsFrom (f ws) (t * l1Span) ((entries - t) * l1Span + n)) same
+  empty-slots ws placed (suc k) s n h none =
+      let rest = (entries - suc s) * l1Span + n in
+      let one-less : (entries - s) * l1Span + n ≡ l1Span + rest = omega (arith, h) in
+      let onward : suc s + k ≡ s + suc k = omega arith in
+      ap (runsFrom (f ws) (s * l1Span)) one-less
+      ∙ empty-slot ws placed s (omega (arith, h)) (none s (omega arith) (omega arith)) rest
+      ∙ empty-slots ws placed k (suc s) n (omega (arith, h)) (λ t a b. none t (omega (arith, a)) (omega (arith, b)))
+      ∙ ap (λ (t : ℕ). runsFrom (f ws) (t * l1Span) ((entries - t) * l1Span + n)) onward
 
   -- past the last slot
   pub past-slots : (ws : List Window) → Placed ws → (n : ℕ) → runsFrom (f ws) inputLimit (n + 0) ≡ []

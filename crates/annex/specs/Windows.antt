@@ -1,13 +1,13 @@
 -- The windows of an accepted layout, as the code goes through them: piece by piece, or as one.
-use Prim.Native.Nat.{ℕ, _%_, _<_}
+use Prim.Native.Nat.{ℕ, _%_, _≤_, _<_}
 use mathlib.Core.Bool.{Bool, true, false, _&&_}
 use mathlib.Core.List.{List, map}
 use mathlib.Core.Path.{_≡_}
-use lib.Dec.{eqb}
+use lib.Dec.{eqb, leb, ltb}
 use lib.ListN.{getD}
 use Rattle.accepted_facts.specs.Accepted.{Within}
 use Rattle.fields.specs.Named.{pick}
-use Rattle.layout.specs.Size.{page, block, boardLimit}
+use Rattle.layout.specs.Size.{entries, page, block, boardLimit}
 use Rattle.layout.specs.Window.{slot}
 use Rattle.layout.specs.declared.Window.{Window}
 use Rattle.perm.specs.Perm.{permCode}
@@ -29,6 +29,16 @@ grantedOver base sup exempt ws x = grantedBy (map (regionIn base sup exempt) ws)
 -- a window that is present in this slot
 abbrev pub hasSlot : ℕ → Window → Bool
 hasSlot s w = w .present && eqb (slot w) s
+
+-- a window's slot where it is present, not before `from` and lower than the one found so far
+abbrev pub lowerSlot : Window → ℕ → ℕ → ℕ
+lowerSlot w from next = pick (w .present && leb from (slot w) && ltb (slot w) next) (slot w) next
+
+-- no slot from `from` on and before the next has a window
+pub record NextSlot (ws : List Window) (from next : ℕ) : Type 0 where
+  pub onward : from ≤ next
+  pub most : next ≤ entries
+  pub none : (s : ℕ) → from ≤ s → s < next → All (λ w. hasSlot s w ≡ false) ws
 
 -- a window that is present lies in one slot of table 1; it is whole pages or blocks, and one that no map is read for has some
 pub record Sited (w : Window) : Type 0 where

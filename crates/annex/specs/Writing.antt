@@ -2,6 +2,7 @@
 use Prim.Native.Nat.{ℕ, _+_, _≤_, _<_}
 use mathlib.Core.List.{List, _++_}
 use mathlib.Core.Path.{_≡_}
+use lib.Dec.{ltb}
 use lib.ListN.{length}
 use Rattle.fields.specs.Named.{pick}
 use Rattle.reach.specs.declared.Reached.{Reached}
@@ -61,6 +62,9 @@ lineAt None at bytes = bytes
 abbrev pub pieceBefore : ℕ → ℕ → Reached → List Run → List Run
 pieceBefore first last (At r) rs = before (run first last r) rs
 pieceBefore first last Nothing rs = rs
+
+abbrev pub lower : ℕ → ℕ → ℕ
+lower a b = pick (ltb b a) b a
 
 -- a run that has begun has an address
 abbrev pub ProperBegun : Begun → Type 0

@@ -14,8 +14,8 @@ ghost use mathlib.Core.Path.{_≡_};
 ghost use lib.ListN.{getD};
 ghost use Rattle.accepted_facts.specs.Guarded.{Guarded};
 ghost use Rattle.annex.specs.Annex.{addressCount, annexPage, AnnexAnswer, annexOf};
-ghost use Rattle.annex.specs.Windows.{regionIn, grantedOver, hasSlot, Sited, Placed};
-ghost use Rattle.annex.specs.Writing.{beginning, Written, Onward, Across, pieceBefore, begunLength, lineAt, lengthened, ProperBegun, Sound};
+ghost use Rattle.annex.specs.Windows.{regionIn, grantedOver, hasSlot, lowerSlot, NextSlot, Sited, Placed};
+ghost use Rattle.annex.specs.Writing.{beginning, Written, Onward, Across, pieceBefore, begunLength, lineAt, lengthened, lower, ProperBegun, Sound};
 ghost use Rattle.layout.specs.Size.{entries, page as pageSize, l1Span, inputLimit, boardLimit};
 ghost use Rattle.refusal.specs.Table.{accepted, first};
 ghost use Rattle.rows.specs.Rows.{guardRows};
@@ -120,10 +120,40 @@ fn write_slots(
 {
     let begun = Begun::Nothing;
     let mut done = Progress { at: 0, begun };
-    for s in 0..Layout::ENTRIES {
-        done = write_slot(page, base, sup, ws, exempt, s as u64, done);
+    let mut s = next_slot(ws, 0);
+    while s < Layout::ENTRIES as u64 {
+        done = write_slot(page, base, sup, ws, exempt, s, done);
+        s = next_slot(ws, s + 1);
     }
     done
+}
+
+// The lowest slot from this one on that has a window, or the count of slots.
+fn next_slot(ws: [Window; Layout::WINDOWS], from: u64) -> u64
+    requires { ⌜ from ≤ entries ⌝ }
+    ensures { λ r. ⌜ NextSlot ws from r ⌝ }
+{
+    let mut next = Layout::ENTRIES as u64;
+    for i in 0..Layout::WINDOWS {
+        next = lower_slot(ws[i], from, next);
+    }
+    next
+}
+
+fn lower_slot(w: Window, from: u64, next: u64) -> u64
+    ensures { λ r. ⌜ r ≡ lowerSlot w from next ⌝ }
+{
+    if !w.present {
+        return next;
+    }
+    let slot = w.l1_index();
+    if slot < from {
+        return next;
+    }
+    if next <= slot {
+        return next;
+    }
+    slot
 }
 
 fn write_slot(
@@ -208,7 +238,7 @@ fn write_window(
     }
 }
 
-// Pieces of one size, each by its entry.
+// Pieces of one size, each by its entry; past the map there is none.
 fn write_pieces(
     page: &mut [u8],
     map: &[u8],
@@ -228,7 +258,8 @@ fn write_pieces(
         done (now (page .entry)) r (now (page .exit)) ⌝ }
 {
     let mut done = done;
-    for p in 0..count {
+    let end = lower(count, map.len() as u64);
+    for p in 0..end {
         let entry = map_entries::entry_at(map, p as usize);
         done = write_piece(
             page,
@@ -241,6 +272,15 @@ fn write_pieces(
         );
     }
     done
+}
+
+fn lower(a: u64, b: u64) -> u64
+    ensures { λ r. ⌜ r ≡ lower a b ⌝ }
+{
+    if b < a {
+        return b;
+    }
+    a
 }
 
 // Addresses whose output is continuous, by one entry.

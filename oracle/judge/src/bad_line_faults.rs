@@ -1,8 +1,8 @@
 //! Slips of an `s2dump` in telling of a bad line.
 
-use crate::dump::Text;
 use crate::dump_faults::{bad_line_fault, with};
 use crate::function::Fault;
+use crate::programs::Text;
 use crate::scene_text::{lines, scene};
 
 pub const FAULTS: &[Fault<Text>] = &[
@@ -82,7 +82,7 @@ fn good_lines(text: &[u8]) -> usize {
 }
 
 /// Leaves out the lines that are bad.
-fn keep_good_lines(text: &mut Text) {
+pub fn keep_good_lines(text: &mut Text) {
     let lines = text.0.split_inclusive(|byte| *byte == b'\n');
     let good = lines.filter(|line| scene(line).is_some());
     text.0 = good.flatten().copied().collect();

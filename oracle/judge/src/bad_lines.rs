@@ -1,4 +1,4 @@
-//! Lines that `s2dump` does not take.
+//! Lines that the programs do not take.
 
 /// How long a long line is.
 pub const LONG_LINE: usize = 100_000;

@@ -1,6 +1,7 @@
 //! Times each call of `libs2.a` beside its Rust original, and prints a line of a Markdown table for
 //! each input.
 
+mod annexes;
 mod arenas;
 mod calls;
 mod edges;
@@ -18,6 +19,7 @@ pub fn bench() -> Result<(), String> {
     layouts::lines();
     arenas::lines();
     walks::lines();
+    annexes::lines();
     edges::lines();
     grants::lines();
     Ok(())
@@ -27,7 +29,7 @@ pub fn bench() -> Result<(), String> {
 struct Line<'a> {
     call: &'a str,
     input: &'a str,
-    /// What of the Rust is timed beside the call.
+    /// What is timed beside the call: of the Rust, where that has anything like it.
     beside: &'a str,
     /// Whether it answers the same question. Else the line has no ratio.
     alike: bool,

@@ -2,7 +2,9 @@
 
 use std::fmt::{self, Display, Formatter};
 
-use crate::function::{faults, for_all, functions, Fault, Function, Input, Layer, Reply};
+use crate::function::{
+    faults, for_all, functions, is_program, Fault, Function, Input, Layer, Reply,
+};
 use crate::round::Round;
 use crate::tally::Tally;
 
@@ -24,7 +26,7 @@ pub fn hunt() -> Result<(), String> {
 }
 
 fn hunt_in<I: Input>(layers: &'static [Layer<I>], round: Round) -> Result<(), String> {
-    for function in functions(layers).filter(|function| function.call != "s2dump") {
+    for function in functions(layers).filter(|function| !is_program(function.call)) {
         compare(function, round, None).map_err(|found| found.to_string())?;
     }
     Ok(())

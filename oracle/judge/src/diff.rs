@@ -8,7 +8,7 @@ use std::thread;
 use std::time::Instant;
 
 use crate::diff_lines::{Done, Job, Line, Progress, Table};
-use crate::function::{for_all, functions};
+use crate::function::{for_all, functions, is_program};
 use crate::round::Round;
 
 pub struct Wanted {
@@ -101,12 +101,12 @@ impl Wanted {
         jobs.collect()
     }
 
-    /// How many inputs the call must have. For `s2dump` each is a process.
+    /// How many inputs the call must have.
     fn least(&self, call: &str) -> u64 {
         match call {
             "s2_validate" | "s2_walk" => self.inputs * 10,
             _ if call.starts_with("decode_") => self.inputs * 10,
-            "s2dump" => self.inputs / 100,
+            _ if is_program(call) => self.inputs / 100,
             _ => self.inputs,
         }
     }

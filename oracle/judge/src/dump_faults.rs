@@ -1,10 +1,8 @@
 //! Slips of an `s2dump` in what it prints.
 
-use crate::dump::{Lines, Printed, Text};
 use crate::encode::{table, ARENA_LEN, TABLE_LEN};
-use crate::function::Fault;
-use crate::inputs::altered;
-use crate::port_dump;
+use crate::function::{with_op, Fault};
+use crate::programs::{Lines, Printed, Program, Text};
 use crate::scene_text::lines;
 
 pub const FAULTS: &[Fault<Text>] = &[
@@ -180,7 +178,7 @@ pub const fn fault(
     Fault {
         name,
         slip,
-        op: Lines::Good,
+        op: (Program::Dump, Lines::Good),
         alter,
     }
 }
@@ -192,14 +190,14 @@ pub const fn bad_line_fault(
     alter: fn(&Text, &mut Printed),
 ) -> Fault<Text> {
     Fault {
-        op: Lines::Bad,
+        op: (Program::Dump, Lines::Bad),
         ..fault(name, slip, alter)
     }
 }
 
 /// What is printed when the text is read after a change.
 pub fn with(text: &Text, change: impl FnOnce(&mut Text)) -> Printed {
-    port_dump::run(&altered(text.clone(), change))
+    with_op(text, (Program::Dump, Lines::Good), change)
 }
 
 /// A table's number, an index and the word there.

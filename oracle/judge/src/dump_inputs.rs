@@ -1,7 +1,8 @@
-//! Texts that `s2dump` reads: scenes, and such as have a bad line.
+//! Texts that the programs read: scenes, and such as have a bad line.
 
+use crate::annex_examples::example_scenes;
 use crate::bad_lines::{BAD_LINES, LONG_LINE};
-use crate::dump::{dump, Text};
+use crate::dump::dump;
 use crate::encode::{guard, Scene};
 use crate::encode_inputs::{equate_tables, scene as with_maps_of_s, unmap_past_frames};
 use crate::inputs::{altered, random, Random};
@@ -9,6 +10,7 @@ use crate::layout::{DEVICE_LEN, IMAGE, IMAGE_PRESENT};
 use crate::layout_inputs::{accepted, examples, moved, SCENE};
 use crate::map_inputs::{map, set};
 use crate::maps::MAP_LEN;
+use crate::programs::Text;
 use crate::round::Round;
 use crate::scene_text::{scene, text_lines};
 
@@ -39,6 +41,8 @@ const AFTER_S: &[(&str, Option<&str>)] = &[
     ("L 0F 1\nU 0 2\n", None),
     ("L F 1\nL F 0\nU 0 2\n", None),
     ("B 1FF 3\nU 1FF 0\n", None),
+    // Nothing is reached.
+    ("L E 0\nB 1 0\nU 2 0\n", None),
     ("B 00000000000001FF 0000000000000003", None),
     ("L A 4000\n", Some("REFUSED 5\n")),
     ("L E 1000\n", Some("REFUSED 4\n")),
@@ -74,6 +78,11 @@ pub fn example_texts() -> impl Iterator<Item = Text> {
 
 fn text(lines: &[String]) -> Text {
     Text(format!("{}\n", lines.join("\n")).into_bytes())
+}
+
+/// The scenes whose annex pages are known by hand.
+pub fn page_texts() -> impl Iterator<Item = Text> {
+    example_scenes().map(|scene| text(&text_lines(&scene)))
 }
 
 /// Random scenes: so many that are accepted, and so many that each row from 4 to 14 refuses.

@@ -2,8 +2,8 @@
 
 use std::iter::once;
 
+use crate::annex::{self, Annexed};
 use crate::authorized::{self, Granted};
-use crate::dump::{self, Text};
 use crate::encode::{self, Scene};
 use crate::exact::{self, Linked};
 use crate::exposed::{self, Exposed};
@@ -11,6 +11,7 @@ use crate::fill::{self, Filling};
 use crate::inputs::{altered, few_codes, hex, many_codes, one, Inputs, Words};
 use crate::layout::{self, Fields};
 use crate::port;
+use crate::programs::Text;
 use crate::reach::{self, Encoding};
 use crate::round::Round;
 use crate::step::{self, Step};
@@ -19,7 +20,7 @@ use crate::updates::{self, List};
 use crate::verify::{self, Arena};
 use crate::walk::{self, Walk};
 use crate::windows::{self, Windowed};
-use crate::{absent, desc, p2m, regime};
+use crate::{absent, annex_text, desc, dump, p2m, regime};
 
 /// What a function is asked.
 pub trait Input: 'static {
@@ -69,10 +70,11 @@ impl Input for Words {
 
 /// A function that the original and the port both have.
 pub struct Function<I: Input = Words> {
-    /// The call of the port that is asked: a function of `probe` or of `libs2.a`, or the program.
+    /// The call of the port that is asked: a function of `probe` or of `libs2.a`, or a program.
     pub call: &'static str,
     pub name: &'static str,
-    /// For `probe`, its number; for `s2dump`, which lines it reads; for edges, how they are lent.
+    /// For `probe`, its number; for a program, which it is and which lines it reads; for edges, how
+    /// they are lent.
     pub op: I::Op,
     /// The reply that is due, the unchanged Rust's where it has one, in the words that the port
     /// writes.
@@ -161,6 +163,9 @@ pub static ARENAS: [Layer<Arena>; 1] = [verify::LAYER];
 /// The functions that look for a layout's tables in its windows.
 pub static EXPOSED: [Layer<Exposed>; 1] = [exposed::LAYER];
 
+/// The functions that write a page of what a scene reaches.
+pub static ANNEXES: [Layer<Annexed>; 1] = [annex::LAYER];
+
 /// The functions that fill two maps from edges.
 pub static FILLINGS: [Layer<Filling>; 1] = [fill::LAYER];
 
@@ -171,7 +176,7 @@ pub static GRANTED: [Layer<Granted>; 1] = [authorized::LAYER];
 pub static LINKED: [Layer<Linked>; 1] = [exact::LAYER];
 
 /// The programs that read a scene.
-pub static TEXTS: [Layer<Text>; 1] = [dump::LAYER];
+pub static TEXTS: [Layer<Text>; 2] = [dump::LAYER, annex_text::LAYER];
 
 pub fn functions<I: Input>(
     layers: &'static [Layer<I>],
@@ -191,8 +196,8 @@ macro_rules! for_all {
     ($layers:ident => $each:expr) => {
         $crate::function::for_all! {
             $layers => $each,
-            WORDS LAYOUTS SCENES STEPS UPDATES TORN WALKS ENCODINGS WINDOWS ARENAS EXPOSED FILLINGS
-            GRANTED LINKED TEXTS
+            WORDS LAYOUTS SCENES STEPS UPDATES TORN WALKS ENCODINGS WINDOWS ARENAS EXPOSED ANNEXES
+            FILLINGS GRANTED LINKED TEXTS
         }
     };
     ($layers:ident => $each:expr, $($all:ident)*) => {
@@ -203,6 +208,11 @@ macro_rules! for_all {
     };
 }
 pub(crate) use for_all;
+
+/// Whether the call is a program, of which each answer is a process.
+pub fn is_program(call: &str) -> bool {
+    ["s2dump", "s2annex"].contains(&call)
+}
 
 /// The names of all faults, in the order of the self-test.
 pub fn fault_names() -> Vec<&'static str> {

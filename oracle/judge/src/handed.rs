@@ -35,8 +35,8 @@ macro_rules! exchanged_numbers {
 }
 pub(crate) use exchanged_numbers;
 
-/// Faults in the arena and the maps that come before a layout.
-macro_rules! lent_otherwise {
+/// Faults in the arena that comes before two maps and a layout.
+macro_rules! arena_otherwise {
     ($call:literal, $x:ident => $scene:expr) => {
         &[
             $crate::handed::handed!(
@@ -57,6 +57,15 @@ macro_rules! lent_otherwise {
                 "as much of the arena is lent as of the base map",
                 $x => $scene.arena.truncate($scene.base.len())
             ),
+        ]
+    };
+}
+pub(crate) use arena_otherwise;
+
+/// Faults in the maps that come before a layout.
+macro_rules! maps_otherwise {
+    ($call:literal, $x:ident => $scene:expr) => {
+        &[
             $crate::handed::handed!(
                 (),
                 concat!($call, "-handed-no-base"),
@@ -73,18 +82,24 @@ macro_rules! lent_otherwise {
                 (),
                 concat!($call, "-handed-base-for-super"),
                 "the maps are exchanged",
-                $x => std::mem::swap(&mut $scene.base, &mut $scene.sup)
+                $x => {
+                    let scene = &mut $scene;
+                    std::mem::swap(&mut scene.base, &mut scene.sup);
+                }
             ),
             $crate::handed::handed!(
                 (),
                 concat!($call, "-handed-base-len-for-super-len"),
                 "the lengths of the maps are exchanged",
-                $x => $crate::handed::exchange_lengths(&mut $scene.base, &mut $scene.sup)
+                $x => {
+                    let scene = &mut $scene;
+                    $crate::handed::exchange_lengths(&mut scene.base, &mut scene.sup);
+                }
             ),
         ]
     };
 }
-pub(crate) use lent_otherwise;
+pub(crate) use maps_otherwise;
 
 /// A fault in which another input is handed over.
 macro_rules! handed {

@@ -5,7 +5,7 @@ use std::mem::swap;
 use crate::encode::Scene;
 use crate::exposed::Exposed;
 use crate::function::Fault;
-use crate::handed::{exchanged_numbers, handed, lent_otherwise, values_moved};
+use crate::handed::{arena_otherwise, exchanged_numbers, handed, maps_otherwise, values_moved};
 use crate::layout::{Fields, L2_DEV, L2_SUP, SUP_FRAMES};
 use crate::port_layouts::{step_in, Call};
 use crate::step::Step;
@@ -25,19 +25,22 @@ pub const EXPOSED: &[&[Fault<Exposed>]] = &[
 ];
 
 pub const ENCODE: &[&[Fault<Scene>]] = &[
-    lent_otherwise!("encode", x => x),
+    arena_otherwise!("encode", x => x),
+    maps_otherwise!("encode", x => *x),
     exchanged_numbers!("encode", x => x.fields),
     values_moved!((), "encode", reply => reply.outcome),
 ];
 
 pub const VERIFY: &[&[Fault<Arena>]] = &[
-    lent_otherwise!("verify", x => x.0),
+    arena_otherwise!("verify", x => x.0),
+    maps_otherwise!("verify", x => x.0),
     exchanged_numbers!("verify", x => x.0.fields),
     values_moved!((), "verify", reply => *reply),
 ];
 
 pub const STEP: &[&[Fault<Step>]] = &[
-    lent_otherwise!("step", x => x.scene),
+    arena_otherwise!("step", x => x.scene),
+    maps_otherwise!("step", x => x.scene),
     exchanged_numbers!("step", x => x.scene.fields),
     values_moved!((), "step", reply => reply.outcome),
     &[

@@ -1,8 +1,8 @@
 //! Slips of an `s2dump` in the numbers that it reads: fields, positions and codes.
 
-use crate::dump::{Printed, Text};
 use crate::dump_faults::{bad_line_fault, fault, with};
 use crate::function::Fault;
+use crate::programs::{Printed, Text};
 use crate::reading_faults::{drop_lines, replaced, reread};
 use crate::scene_text::lines;
 

@@ -52,7 +52,7 @@ pub fn exposed(fields: &Fields) -> Outcome {
 }
 
 /// What a call answers. It fails if the call has changed the layout, or what stands around it.
-fn lend_layout(fields: &Fields, call: impl FnOnce(*const Fields, *mut u64) -> u32) -> Outcome {
+pub fn lend_layout(fields: &Fields, call: impl FnOnce(*const Fields, *mut u64) -> u32) -> Outcome {
     let mut layout = Fenced::new(fields, UNWRITTEN);
     let lent = layout.as_mut_ptr().cast();
     let outcome = outcome(|values| call(lent, values));

@@ -1,8 +1,8 @@
 //! Slips of an `s2dump` in the lines that it reads.
 
-use crate::dump::{Printed, Text};
 use crate::dump_faults::{bad_line_fault, fault, with};
 use crate::function::Fault;
+use crate::programs::{Printed, Text};
 use crate::scene_text::lines;
 
 pub const FAULTS: &[Fault<Text>] = &[
@@ -19,11 +19,7 @@ pub const FAULTS: &[Fault<Text>] = &[
         "read-first-line-counts",
         "a later line does not replace an earlier one",
         |text, printed| {
-            *printed = with(text, |text| {
-                let mut lines: Vec<_> = lines(&text.0).collect();
-                lines.reverse();
-                text.0 = joined(&lines);
-            });
+            *printed = with(text, reversed_lines);
         },
     ),
     fault(
@@ -167,8 +163,14 @@ pub const FAULTS: &[Fault<Text>] = &[
     ),
 ];
 
+pub fn reversed_lines(text: &mut Text) {
+    let mut lines: Vec<_> = lines(&text.0).collect();
+    lines.reverse();
+    text.0 = joined(&lines);
+}
+
 /// Leaves out a last line without a line feed.
-fn finished_lines(text: &mut Text) {
+pub fn finished_lines(text: &mut Text) {
     let finished = text.0.iter().rposition(|byte| *byte == b'\n');
     text.0.truncate(finished.map_or(0, |place| place + 1));
 }

@@ -1,28 +1,34 @@
-//! Scenes in a folder: each text with what `s2dump` must print for it beside it.
+//! Scenes in a folder: each text with what the programs must print for it beside it.
 
 use std::fs;
 use std::path::{Path, PathBuf};
 
-use crate::dump::{dump, Text};
+use crate::annex_text::annex_text;
+use crate::dump::dump;
+use crate::programs::{Printed, Text};
 
-/// Writes what each scene prints.
+/// The extension of a file, and what it holds of a text.
+type Held = (&'static str, fn(&Text) -> Printed);
+
+/// What each program prints.
+const PRINTED: [Held; 2] = [("out", dump), ("annex", annex_text)];
+
+/// Writes what is printed for each scene.
 pub fn write(folder: &str) -> Result<(), String> {
     let texts = texts(folder)?;
-    for text in &texts {
-        let printed = printed(text)?;
-        fs::write(text.with_extension("out"), printed).map_err(|error| failure(text, error))?;
+    for (file, printed) in files(&texts)? {
+        fs::write(&file, printed).map_err(|error| failure(&file, error))?;
     }
     println!("{} scenes written", texts.len());
     Ok(())
 }
 
-/// Compares what is written for each scene with what it prints.
+/// Compares what is written for each scene with what is printed.
 pub fn check(folder: &str) -> Result<(), String> {
     let texts = texts(folder)?;
-    for text in &texts {
-        let file = text.with_extension("out");
+    for (file, printed) in files(&texts)? {
         let found = fs::read(&file).map_err(|error| failure(&file, error))?;
-        if found != printed(text)? {
+        if found != printed {
             return Err(format!("{} is not what the original gives", file.display()));
         }
     }
@@ -30,9 +36,17 @@ pub fn check(folder: &str) -> Result<(), String> {
     Ok(())
 }
 
-fn printed(text: &Path) -> Result<Vec<u8>, String> {
-    let text = fs::read(text).map_err(|error| failure(text, error))?;
-    Ok(dump(&Text(text)).stdout)
+/// The files beside the texts, and what they hold.
+fn files(texts: &[PathBuf]) -> Result<Vec<(PathBuf, Vec<u8>)>, String> {
+    let mut files = Vec::new();
+    for path in texts {
+        let text = fs::read(path).map_err(|error| failure(path, error))?;
+        let text = Text(text);
+        for (extension, printed) in PRINTED {
+            files.push((path.with_extension(extension), printed(&text).stdout));
+        }
+    }
+    Ok(files)
 }
 
 /// The texts of a folder. One without any is a failure: nothing would be checked.

@@ -7,7 +7,7 @@ use std::rc::Rc;
 
 use crate::encode::{rows_2_to_14, Scene};
 use crate::function::{answers, Answer, Function, Input, Layer};
-use crate::handed::{exchanged_numbers, handed, values_moved};
+use crate::handed::{exchanged_numbers, handed, maps_otherwise, values_moved};
 use crate::inputs::Outcome;
 use crate::layout::LEAST;
 use crate::port_windows;
@@ -39,30 +39,8 @@ pub const LAYER: Layer<Windowed> = Layer {
     wrapper_faults: &[
         exchanged_numbers!("windows", x => x.scene_mut().fields),
         values_moved!((), "windows", reply => *reply),
-        &[
-            handed!((), "windows-handed-no-ipa", "the address is 0", x => x.ipa = 0),
-            handed!(
-                (),
-                "windows-handed-no-base",
-                "no byte of the base map is lent",
-                x => x.scene_mut().base.clear()
-            ),
-            handed!(
-                (),
-                "windows-handed-no-super",
-                "no byte of the super map is lent",
-                x => x.scene_mut().sup.clear()
-            ),
-            handed!(
-                (),
-                "windows-handed-base-for-super",
-                "the maps are exchanged",
-                x => {
-                    let scene = x.scene_mut();
-                    std::mem::swap(&mut scene.base, &mut scene.sup);
-                }
-            ),
-        ],
+        maps_otherwise!("windows", x => *x.scene_mut()),
+        &[handed!((), "windows-handed-no-ipa", "the address is 0", x => x.ipa = 0)],
     ],
 };
 

@@ -1,25 +1,25 @@
 -- `write_pieces` meets its contract: the pieces before p are gone through.
 use Prim.Native.Nat.{ℕ, suc, _+_, _-_, _*_, _/_, _≤_, _<_}
 use mathlib.Core.List.{List}
-use mathlib.Core.Path.{_≡_, refl, sym, subst, _∙_}
-use native.Mathlib.Nat.{zero-mul, suc-mul}
+use mathlib.Core.Path.{_≡_, refl, sym, ap, _∙_}
+use native.Mathlib.Nat.{zero-mul, suc-mul, mul-le-mul-right}
 use native.Mathlib.Numerals.{add-one}
 use native.Mathlib.Omega.{arith}
 use lib.ListN.{length, getD}
 use borrow.Author.Needs.{needs}
 use denote.Ref.{now}
-use Rattle.annex.proofs.Pieces.{onFrom, piece-ends, from-first, from-last, next-piece}
-use Rattle.annex.specs.Writing.{resumed, Written, Onward, pieceBefore, Sound}
+use Rattle.annex.proofs.Pieces.{lower-first, onFrom, piece-ends, from-first, from-last, past-map, next-piece}
+use Rattle.annex.proofs.Writing.{with-runs}
+use Rattle.annex.specs.Writing.{Onward, pieceBefore, lower, Sound}
 use Rattle.reach.specs.declared.Reached.{Reached}
-use Rattle.runs.specs.Page.{pageOf}
 use Rattle.runs.specs.declared.Run.{Run}
 use Rattle.window_reach.specs.Granted.{byEntry}
 use Rattle.annex.proofs.write_pieces.Statement.{statement}
 use Rattle.annex.proofs.write_pieces.Tie as tie
 
 abbrev Inv-loop : tie.InvT-loop
-Inv-loop page₀ map ipa pa count size exempt done₀ p₀ page done p =
-    (p ≤ count)
+Inv-loop page₀ map ipa pa count size exempt done₀ end p₀ page done p =
+    (p ≤ end)
     × (length page ≡ length page₀)
     × (Sound done (ipa + p * size))
     × ((f : ℕ → Reached) (n : ℕ) →
@@ -27,21 +27,25 @@ Inv-loop page₀ map ipa pa count size exempt done₀ p₀ page done p =
     Onward done₀ page₀ (onFrom f ipa count size n 0) done page (onFrom f ipa count size n p))
 
 abbrev μ-loop : tie.MeasureT-loop
-μ-loop page₀ map ipa pa count size exempt done₀ p₀ page done p = count - p
+μ-loop page₀ map ipa pa count size exempt done₀ end p₀ page done p = end - p
 
 -- the piece that is gone through ends in the window
 ends : (c : tie.After-write-piece-arg Inv-loop μ-loop) →
     let h = c .before .before .before in
-    let a = h .before .before .before .args in
+    let a = h .before .before .before .before .args in
     h .loop .p * a .size + a .size ≤ a .count * a .size
 ends c =
     let h = c .before .before .before in
-    let a = h .before .before .before .args in
-    piece-ends (a .count) (a .size) (h .loop .p) (c .before .before .loop-test .taken)
+    let a = h .before .before .before .before .args in
+    let few = lower-first (a .count) (length (now (a .map))) in
+    piece-ends (a .count) (a .size) (h .loop .p) (omega (arith, c .before .before .loop-test .taken, h .before .lower .ensures, few))
+
+lower-requires : tie.Need-lower-requires Inv-loop μ-loop
+lower-requires c κs = search needs
 
 loop-holds : tie.Need-loop-holds Inv-loop μ-loop
 loop-holds c =
-    let start = c .before .before in
+    let start = c .before .before .before in
     let a = start .args in
     let s = start .pre .1 .1 .1 in
     (omega arith, refl, record { few = omega (arith, s .few, zero-mul (a .size)); proper = s .proper }, λ f n grants text old w. w)
@@ -50,20 +54,20 @@ entry-at-requires : tie.Need-entry-at-requires Inv-loop μ-loop
 entry-at-requires c κs = search needs
 
 mul-write-piece : tie.Need-mul-write-piece Inv-loop μ-loop
-mul-write-piece c = omega (arith, ends c, c .before .before .before .before .before .before .pre .1 .0, c .before .before .before .before .before .before .pre .1 .1 .0)
+mul-write-piece c = omega (arith, ends c, c .before .before .before .before .before .before .before .pre .1 .0, c .before .before .before .before .before .before .before .pre .1 .1 .0)
 
 add-write-piece : tie.Need-add-write-piece Inv-loop μ-loop
-add-write-piece c = omega (arith, ends c, c .before .before .before .before .before .before .pre .1 .0, c .before .before .before .before .before .before .pre .1 .1 .0)
+add-write-piece c = omega (arith, ends c, c .before .before .before .before .before .before .before .pre .1 .0, c .before .before .before .before .before .before .before .pre .1 .1 .0)
 
 mul-write-piece-2 : tie.Need-mul-write-piece-2 Inv-loop μ-loop
-mul-write-piece-2 c = omega (arith, ends c, c .before .before .before .before .before .before .pre .1 .0, c .before .before .before .before .before .before .pre .1 .1 .0)
+mul-write-piece-2 c = omega (arith, ends c, c .before .before .before .before .before .before .before .pre .1 .0, c .before .before .before .before .before .before .before .pre .1 .1 .0)
 
 add-write-piece-2 : tie.Need-add-write-piece-2 Inv-loop μ-loop
-add-write-piece-2 c = omega (arith, ends c, c .before .before .before .before .before .before .pre .1 .0, c .before .before .before .before .before .before .pre .1 .1 .0)
+add-write-piece-2 c = omega (arith, ends c, c .before .before .before .before .before .before .before .pre .1 .0, c .before .before .before .before .before .before .before .pre .1 .1 .0)
 
 write-piece-requires : tie.Need-write-piece-requires Inv-loop μ-loop
 write-piece-requires c κs =
-    let start = c .before .before .before .before .before .before in
+    let start = c .before .before .before .before .before .before .before in
     (start .pre .0, (omega (arith, ends c, start .pre .1 .0), c .before .before .before .loop .inv .2))
 
 add-p : tie.Need-add-p Inv-loop μ-loop
@@ -76,7 +80,7 @@ loop-again : tie.Need-loop-again Inv-loop μ-loop
 loop-again c =
     let v = c .before .before in
     let h = v .before .before .before .before in
-    let start = h .before .before .before in
+    let start = h .before .before .before .before in
     let a = start .args in
     let p = h .loop .p in
     let test = v .before .before .before .loop-test .taken in
@@ -88,13 +92,13 @@ loop-again c =
       λ f n grants text old w.
           let x = a .ipa + p * a .size in
           let rest = onFrom f (a .ipa) (a .count) (a .size) n (suc p) in
-          let held : List Run → Type 0 =
-          λ rs. Written text old (pageOf (resumed (h .loop .done .begun) rs)) (h .loop .done .at) (h .loop .page) in
           let some : 0 < a .size = omega (arith, start .pre .0) in
-          let next = next-piece f (a .ipa) (a .count) (a .size) n (a .pa) (a .exempt) (λ k. getD (now (a .map)) k 0) some grants p test in
-          let here = subst held next (h .loop .inv .3 f n grants text old w) in
+          let next = next-piece f (a .ipa) (a .count) (a .size) n (a .pa) (a .exempt) (λ k. getD (now (a .map)) k 0) some grants p
+          (omega (arith, test, h .before .lower .ensures, lower-first (a .count) (length (now (a .map))))) in
+          let here = with-runs (h .loop .done .begun) next (h .loop .inv .3 f n grants text old w) in
           v .write-piece .ensures .1 rest text old
-          (subst (λ (e : ℕ). held (pieceBefore x (x + (a .size - 1)) (byEntry (a .pa + p * a .size) (a .exempt) e) rest)) (sym entry) here),
+          (with-runs (h .loop .done .begun)
+          (ap (λ (e : ℕ). pieceBefore x (x + (a .size - 1)) (byEntry (a .pa + p * a .size) (a .exempt) e) rest) (sym entry)) here),
     )
 
 same-length : tie.Need-same-length Inv-loop μ-loop
@@ -103,17 +107,23 @@ same-length c = c .before .loop .inv .1
 returns : tie.Need-returns Inv-loop μ-loop
 returns c =
     let h = c .before in
-    let a = h .before .before .before .args in
-    let all : h .loop .p ≡ a .count = omega (arith, h .loop .inv .0, c .loop-test .left) in (
-      subst (λ (p : ℕ). Sound (h .loop .done) (a .ipa + p * a .size)) all (h .loop .inv .2),
+    let start = h .before .before .before .before in
+    let a = start .args in
+    let end = lower (a .count) (length (now (a .map))) in
+    let few = lower-first (a .count) (length (now (a .map))) in
+    let all : h .loop .p ≡ end = omega (arith, h .loop .inv .0, c .loop-test .left, h .before .lower .ensures) in
+    let size = a .size in
+    let through : h .loop .p * size ≤ a .count * size = mul-le-mul-right size (omega (arith, all, few)) in (
+      record { few = omega (arith, h .loop .inv .2 .few, through); proper = h .loop .inv .2 .proper },
       λ f n grants text old w.
-          let held : List Run → Type 0 =
-          λ rs. Written text old (pageOf (resumed (h .loop .done .begun) rs)) (h .loop .done .at) (h .loop .page) in
-          let began = subst (λ (rs : List Run). Written text old (pageOf (resumed (a .done .begun) rs)) (a .done .at) (now (a .page)))
-          (from-first f (a .ipa) (a .count) (a .size) n) w in
-          let after = h .loop .inv .3 f n grants text old began in
-          subst held (from-last f (a .ipa) (a .count) (a .size) n)
-          (subst (λ (p : ℕ). held (onFrom f (a .ipa) (a .count) (a .size) n p)) all after),
+          let on : ℕ → List Run = onFrom f (a .ipa) (a .count) size n in
+          let some : 0 < size = omega (arith, start .pre .0) in
+          let gone = h .loop .inv .3 f n grants text old (with-runs (a .done .begun) (from-first f (a .ipa) (a .count) size n) w) in
+          with-runs (h .loop .done .begun)
+          (ap on all
+          ∙ past-map f (a .ipa) (a .count) size n (a .pa) (a .exempt) (now (a .map)) some grants
+          ∙ from-last f (a .ipa) (a .count) size n)
+          gone,
     )
 
 pub write-pieces-spec : {M : Type 1} → statement M
@@ -122,6 +132,7 @@ write-pieces-spec =
     (tie.spec
     Inv-loop
     μ-loop
+    lower-requires
     loop-holds
     entry-at-requires
     mul-write-piece

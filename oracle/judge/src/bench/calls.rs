@@ -10,6 +10,7 @@ use crate::fill::Filling;
 use crate::inputs::Words;
 use crate::layout::Fields;
 use crate::lending::Lent;
+use crate::port_annex::s2_annex;
 use crate::port_layouts::{s2_encode, s2_exposed, s2_step, s2_validate, s2_verify, with_scene};
 use crate::port_maps::{s2_authorized, Exact, Fill};
 use crate::port_walk::s2_walk;
@@ -50,6 +51,25 @@ pub fn verify(scene: &Both, arena: &mut Arena, values: &mut Words) -> bool {
     let lent = scene.lent(arena);
     // SAFETY: the arena and each map are as long as is said, and eight values are written.
     let number = unsafe { with_scene!(s2_verify, lent, &scene.fields, values.as_mut_ptr()) };
+    accepts(number, values)
+}
+
+/// Whether the page has room.
+pub fn annex(scene: &Both, page: &mut [u8], values: &mut Words) -> bool {
+    let (base, sup) = scene.maps();
+    // SAFETY: the buffer and each map are as long as is said, and eight values are written.
+    let number = unsafe {
+        s2_annex(
+            page.as_mut_ptr(),
+            page.len(),
+            base.as_ptr(),
+            base.len(),
+            sup.as_ptr(),
+            sup.len(),
+            &scene.fields,
+            values.as_mut_ptr(),
+        )
+    };
     accepts(number, values)
 }
 

@@ -41,6 +41,10 @@ impl Both {
         }
     }
 
+    pub fn maps(&self) -> (&[u8], &[u8]) {
+        (&self.base, &self.sup)
+    }
+
     pub fn lent(&self, arena: &mut Arena) -> Lent {
         let words = arena.0.as_flattened_mut();
         Lent {
