@@ -24,6 +24,9 @@ ghost use Rattle.runs.specs.Runs.{sameAccess, goesOn, before, runsFrom};
 ghost use Rattle.runs.specs.declared.Run.{Run};
 ghost use Rattle.window_reach.specs.Granted.{byEntry, grantedIn};
 
+// A line for an image, for each page of data, each super and each device, and the last line: no page is longer (`LongestPage`).
+pub const LONGEST: usize = 41080;
+
 pub enum Annexed {
     // The bytes written.
     Told(u64),
