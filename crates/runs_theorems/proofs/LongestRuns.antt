@@ -119,6 +119,18 @@ module _ (f : ℕ → Reached) where
   chain-longest-runs rs l =
       chain-of 0 rs (all-always (λ r. 0 ≤ r .first) (λ r. omega arith) rs) (l .proper) (l .ascending) (l .longest) (λ y h. l .covers y)
 
+-- what each run says of its addresses
+pub runs-tell : (f : ℕ → Reached) (rs : List Run) → LongestRuns f rs →
+    All (λ r. (r .first ≤ r .last) × ((x : ℕ) → r .first ≤ x → x ≤ r .last → f x ≡ runReach r x)) rs
+runs-tell f rs l = go 0 rs (chain-longest-runs f rs l) (λ y h. l .covers y)
+  where
+    go : (n : ℕ) (ts : List Run) → Chain n ts → Says f n ts → All (λ r. (r .first ≤ r .last) × ((x : ℕ) → r .first ≤ x → x ≤ r .last → f x ≡ runReach r x)) ts
+    go n [] c says = tt
+    go n (r ∷ rs) c says = (
+      (c .1, λ x a b. says x (omega (arith, a, c .0)) ∙ in-first r x rs a b),
+      go (suc (r .last)) rs (c .3) (onward f n r rs (omega (arith, c .0, c .1)) says),
+    )
+
 pub runs-are-longest : RunsAreLongest
 runs-are-longest f n none = longest-runs f (runsFrom f 0 n) (runs-chain f n 0) says
   where
