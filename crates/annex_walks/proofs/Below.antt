@@ -32,7 +32,8 @@ by-entry-output pa exempt e a is = go (eqb e 1) (eqb e 2) (eqb e 3) refl refl re
 
 module _ (base sup : List ℕ) (exempt : Bool) (x : ℕ) where
   pub output-below :
-      (ws : List Window) → All (λ w. w .present ≡ true → Sited w) ws → (a : Reach) → grantedOver base sup exempt ws x ≡ At a → a .pa < boardLimit
+      (ws : List Window) → All (λ w. w .present ≡ true → Sited w) ws →
+      (a : Reach) → grantedOver base sup exempt ws x ≡ At a → a .pa < boardLimit
   unfolding grantedBy
   output-below [] sited a is = absurd (reached≢nothing a (sym is))
   output-below (w ∷ ws) sited a is = go (contains w x) refl (output-below ws (sited .1) a)

@@ -1,5 +1,5 @@
--- Request M-100's theorem: for every accepted layout and maps the page lists exactly the addresses that walks of the encoded tables reach, as
--- the longest runs, and nothing else.
+-- Request M-100's theorem: for every accepted layout and maps the page lists exactly the addresses that walks of the encoded tables reach,
+-- as the longest runs, and nothing else.
 use Prim.Native.Nat.{ℕ, _+_, _-_, _^_, _<_}
 use mathlib.Core.List.{List}
 use mathlib.Core.Path.{_≡_}

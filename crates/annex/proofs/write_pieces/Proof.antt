@@ -56,16 +56,24 @@ entry-at-requires : tie.Need-entry-at-requires Inv-loop μ-loop
 entry-at-requires c κs = search needs
 
 mul-write-piece : tie.Need-mul-write-piece Inv-loop μ-loop
-mul-write-piece c = let start = c .before .before .before .before .before .before .before .before in omega (arith, ends (c .before .before) .1, start .pre .1 .0, start .pre .1 .1 .0)
+mul-write-piece c =
+    let start = c .before .before .before .before .before .before .before .before in
+    omega (arith, ends (c .before .before) .1, start .pre .1 .0, start .pre .1 .1 .0)
 
 add-write-piece : tie.Need-add-write-piece Inv-loop μ-loop
-add-write-piece c = let start = c .before .before .before .before .before .before .before .before in omega (arith, ends (c .before .before) .1, start .pre .1 .0, start .pre .1 .1 .0)
+add-write-piece c =
+    let start = c .before .before .before .before .before .before .before .before in
+    omega (arith, ends (c .before .before) .1, start .pre .1 .0, start .pre .1 .1 .0)
 
 mul-write-piece-2 : tie.Need-mul-write-piece-2 Inv-loop μ-loop
-mul-write-piece-2 c = let start = c .before .before .before .before .before .before .before .before in omega (arith, ends (c .before .before) .1, start .pre .1 .0, start .pre .1 .1 .0)
+mul-write-piece-2 c =
+    let start = c .before .before .before .before .before .before .before .before in
+    omega (arith, ends (c .before .before) .1, start .pre .1 .0, start .pre .1 .1 .0)
 
 add-write-piece-2 : tie.Need-add-write-piece-2 Inv-loop μ-loop
-add-write-piece-2 c = let start = c .before .before .before .before .before .before .before .before in omega (arith, ends (c .before .before) .1, start .pre .1 .0, start .pre .1 .1 .0)
+add-write-piece-2 c =
+    let start = c .before .before .before .before .before .before .before .before in
+    omega (arith, ends (c .before .before) .1, start .pre .1 .0, start .pre .1 .1 .0)
 
 write-piece-requires : tie.Need-write-piece-requires Inv-loop μ-loop
 write-piece-requires c κs =
