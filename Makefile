@@ -12,15 +12,16 @@ TIMED = cargo run --quiet --profile timed --offline --manifest-path oracle/Cargo
 # For make help: behind the first ## stands how long a target takes, behind the second what it does.
 .PHONY: run test help library scenes board board-arm header pages compare diff arm arm-short sabotage bench record fmt
 # Steps of these.
-.PHONY: dump library-here libraries judge judge-library compared self-tested
+.PHONY: programs library-here libraries judge judge-library compared self-tested
 
-# Proves the dump and what it needs, and builds it. What is proved is told on standard error, here and below: a target's own lines stand alone.
-DUMP = tools/progress.sh target/dump.log rt check s2dump >&2
+# Proves programs and what they need, and builds them. What is proved is told on standard error, here and below: a target's own lines stand
+# alone.
+PROVE = tools/progress.sh target/programs.log rt check
 
 run: ## 4 min ## proves the program and what it needs, builds it and runs it on scene S
 	@echo "proving $$(awk -v crate=s2dump -f tools/needed.awk crates.txt) crates, s2dump and what it needs:" \
 	    "3 to 4 minutes from nothing, a second where nothing has changed" >&2
-	@$(DUMP)
+	@$(PROVE) s2dump >&2
 	@target/bin/s2dump <scenes/S.txt
 
 # rt ci begins by removing target/: run first, what it proved serves the rest. Its verdict comes last. It waits for each batch of jobs to
@@ -42,7 +43,7 @@ fmt: ## 2 s ## lays out every file
 	@cargo fmt --all --manifest-path board/dervhalt-s2/Cargo.toml
 
 # The C header declares what the static library exports, and has its numbers.
-NUMBERED = crates/layout/src/lib.rt crates/update/src/lib.rt crates/p2m/src/lib.rt
+NUMBERED = crates/layout/src/lib.rt crates/update/src/lib.rt crates/p2m/src/lib.rt crates/annex/src/lib.rt
 header: ## 1 s ## holds the C header to the exported calls and numbers
 	@mkdir -p target
 	@$(CC) -std=c99 -Wall -Wextra -Werror -fsyntax-only -x c include/dervhalt_s2.h
@@ -60,12 +61,13 @@ header: ## 1 s ## holds the C header to the exported calls and numbers
 pages: library ## 30 s ## holds the pages to the files
 	@tools/pages.sh
 
-# What the dump prints of each scene.
-scenes: dump ## 1 s ## holds what the dump prints of each scene to the Rust's
+# What the programs print of each scene: the nonzero words, and the annex page.
+scenes: programs ## 1 s ## holds what s2dump and s2annex print of each scene to scenes/*.out and *.annex
 	@for scene in scenes/*.txt; do \
-	    target/bin/s2dump <$$scene | cmp - $${scene%.txt}.out || { echo "$$scene prints something else"; exit 1; }; \
+	    { target/bin/s2dump <$$scene | cmp - $${scene%.txt}.out && target/bin/s2annex <$$scene | cmp - $${scene%.txt}.annex; } || \
+	        { echo "$$scene prints something else"; exit 1; }; \
 	done
-	@echo "scenes: $$(ls scenes/*.txt | wc -l) printed as they must be"
+	@echo "scenes: $$(ls scenes/*.out | wc -l) printed by s2dump and $$(ls scenes/*.annex | wc -l) by s2annex as they must be"
 
 # Board code in Rust and in C over the static library: the crate's tests, and what scene S prints in both.
 board: library-here ## 40 s ## board code in Rust and C: the crate's tests, and scene S
@@ -107,8 +109,8 @@ diff: libraries ## 10 min ## the same at scale; SEED=S asks other inputs
 bench: libraries ## 1.3 min ## times beside the Rust
 	@$(TIMED) bench
 
-# The Rust's answers: what the replays must print, and the dump of each scene.
-record: libraries ## 1 min ## records the Rust's answers anew
+# The Rust's answers, which the replays must print, and what the programs must print of each scene.
+record: libraries ## 1 min ## records the Rust's answers anew, and what the programs print of each scene
 	@$(JUDGE) record crates
 	@$(JUDGE) scenes scenes
 
@@ -133,11 +135,11 @@ library: library-here ## 30 s ## what board code links, for aarch64 and for this
 library-here:
 	@tools/progress.sh target/library-here.log tools/module.sh s2 >&2
 
-dump:
-	@$(DUMP)
+programs:
+	@$(PROVE) s2dump s2annex >&2
 
-# What the comparison links beside it, and the dump.
-libraries: library dump
+# What the comparison links beside it, and the programs that it runs.
+libraries: library programs
 	@tools/progress.sh target/probe_windows.log rt staticlib probe_windows >&2
 	@tools/progress.sh target/probe.log tools/module.sh probe >&2
 

@@ -1,5 +1,5 @@
 # Prints the numbers that the C header names, as the Rattle files have them: each name in quotes, and its number.
-# awk -f tools/numbers.awk crates/layout/src/lib.rt crates/update/src/lib.rt crates/p2m/src/lib.rt
+# awk -f tools/numbers.awk crates/layout/src/lib.rt crates/update/src/lib.rt crates/p2m/src/lib.rt crates/annex/src/lib.rt
 
 # A number, or a product of numbers and of constants before it.
 /^ *(pub )?const [A-Z0-9_]+: (usize|u64) = / {
@@ -23,7 +23,8 @@
 }
 
 END {
-    count = split("ARENA_LEN ARENA_LEN STEPS STEPS MAP_LEN ENTRIES TABLE_COUNT TABLES BASE Span::Base SUPER Span::Super", of, " ")
+    names = "ARENA_LEN ARENA_LEN STEPS STEPS MAP_LEN ENTRIES TABLE_COUNT TABLES BASE Span::Base SUPER Span::Super"
+    count = split(names " ANNEX_MAX LONGEST", of, " ")
     for (i = 1; i < count; i += 2)
         print "\"S2_" of[i] "\" " value[of[i + 1]]
 }

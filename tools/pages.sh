@@ -1,9 +1,12 @@
 #!/bin/sh
 # Holds what the pages say to the files: every path, edit, crate and name is there; the definitions that must be believed, the edits and the
-# described calls are as many; so much stack is taken; and the board's register has its value. And make help lists every target that is no step of another.
+# described calls are as many; so much stack is taken; the board's register has its value; and S's annex page and its picture are as they are
+# shown. And make help lists every target that is no step of another.
 set -eu
 cd "$(dirname "$0")/.."
-pages="README.md NOTICE docs/*.md crates/README.md oracle/README.md arm/README.md board/README.md"
+# docs/ has a folder for the notes on changes.
+docs=$(find docs -name '*.md' | sort)
+pages="README.md NOTICE $docs crates/README.md oracle/README.md arm/README.md board/README.md"
 
 # says PAGE TEXT: the page has the text.
 says() {
@@ -16,7 +19,7 @@ grep -ohP '(?<![/.])\b(crates|oracle|arm|board|sabotage|tools|scenes|docs|includ
     done
 
 # A theorem, field or seeded fault that a page names, by its hyphen, has that name.
-grep -ohP '`\K[a-z]+(-[A-Za-z0-9]+)+(?=`)' README.md docs/*.md | sort -u | grep -vx -e qemu-aarch64 -e rust-version |
+grep -ohP '`\K[a-z]+(-[A-Za-z0-9]+)+(?=`)' README.md $docs | sort -u | grep -vx -e qemu-aarch64 -e rust-version |
     while read -r name; do
         grep -rqF --exclude-dir=target -- "$name" crates oracle arm board/dervhalt-s2/Cargo.toml board/dervhalt-s2/src || { echo "nothing is called $name, which a page names"; exit 1; }
     done
@@ -31,13 +34,14 @@ layers=$(grep '^|' crates/README.md | grep -o '`[a-z0-9_]*`' | tr -d '\`' | sort
 believed() {
     awk -f tools/believed.awk "$@" | tail -1
 }
-calls=crates/s2/specs/Answers.antt demand2=crates/demand_2/specs/Demand2.antt demand3=crates/demand_3/specs/Demand3.antt dump=crates/dump/specs/Dump.antt
-for statement in $calls $demand2 $demand3 $dump; do
+statements="crates/s2/specs/Answers.antt crates/demand_2/specs/Demand2.antt crates/demand_3/specs/Demand3.antt
+    crates/annex_walks/specs/Annex.antt crates/dump/specs/Dump.antt crates/annex_text/specs/Text.antt"
+for statement in $statements; do
     says docs/TRUST.md "| [$statement](../$statement) | $(believed $statement) |"
 done
-says docs/TRUST.md "| all four | | $(believed $calls $demand2 $demand3 $dump) |"
+says docs/TRUST.md "| all six | | $(believed $statements) |"
 
-# Each subject's files have as many lines, and together they are the files that the four statements rest on.
+# Each subject's files have as many lines, and together they are the files that the six statements rest on.
 subjects() {
     awk -F ' *[|] *' '$3 ~ /^`crates\/.*antt`$/ { gsub(/[`,]/, "", $3); print $4, $3 }' docs/TRUST.md
 }
@@ -45,8 +49,8 @@ subjects | while read -r lines files; do
     [ "$(cat $files | wc -l)" = "$lines" ] || { echo "docs/TRUST.md has another count of lines of $files"; exit 1; }
 done
 listed=$(subjects | cut -d ' ' -f 2- | tr ' ' '\n' | sort)
-[ "$(awk -f tools/believed.awk $calls $demand2 $demand3 $dump | grep -o 'crates/.*' | sort)" = "$listed" ] ||
-    { echo "docs/TRUST.md lists other files than the four statements rest on"; exit 1; }
+[ "$(awk -f tools/believed.awk $statements | grep -o 'crates/.*' | sort)" = "$listed" ] ||
+    { echo "docs/TRUST.md lists other files than the six statements rest on"; exit 1; }
 
 # A fault that is listed as missed is of a function that is there.
 grep -v '^#' sabotage/missed.txt | cut -f 1 | sort -u | while read -r function; do
@@ -55,7 +59,7 @@ done
 
 # Each edit that a page names is in the folder of the path before it.
 named_edits() {
-    grep -ohP 'crates/[a-z0-9_]+/must-fail/[a-z0-9_]+\.edit(, [a-z0-9_]+\.edit)*' docs/*.md
+    grep -ohP 'crates/[a-z0-9_]+/must-fail/[a-z0-9_]+\.edit(, [a-z0-9_]+\.edit)*' $docs
 }
 named_edits | sort -u | while read -r named; do
     folder=${named%%/must-fail/*}/must-fail
@@ -63,7 +67,7 @@ named_edits | sort -u | while read -r named; do
         [ -e "$folder/$edit" ] || { echo "no $folder/$edit, which a page names"; exit 1; }
     done
 done
-[ "$(named_edits | grep -o '\.edit' | wc -l)" = "$(grep -oh '[a-z0-9_]\.edit' docs/*.md | wc -l)" ] ||
+[ "$(named_edits | grep -o '\.edit' | wc -l)" = "$(grep -oh '[a-z0-9_]\.edit' $docs | wc -l)" ] ||
     { echo "a page names an edit without its folder"; exit 1; }
 
 # The table of edits has each crate with its count, and no other.
@@ -76,6 +80,14 @@ definitions=$(grep -l '^file: specs' crates/*/must-fail/*.edit | wc -l)
 contracts=$(grep -l '^file: src' crates/*/must-fail/*.edit | xargs grep -lE '^old: .*(≡|∷|\.entry|\.exit|λ m|Vtcr\.Value)' | wc -l)
 code=$(($(ls crates/*/must-fail/*.edit | wc -l) - definitions - contracts))
 says docs/SABOTAGE.md "$definitions alter a definition or a statement, $contracts a contract and $code code"
+
+# S's annex page is the one that is shown, and its picture is drawn from it.
+for page in README.md docs/STATEMENT.md; do
+    sed -nE 's/^ *(([0-9A-F]{10} ){2}[0-9A-F]{12} R[OW] [X-]|={39})$/\1/p' $page | cmp -s - scenes/S.annex ||
+        { echo "$page shows another page than scenes/S.annex"; exit 1; }
+done
+awk -f tools/annex_map.awk <scenes/S.annex | cmp -s - docs/annex-S.svg ||
+    { echo "docs/annex-S.svg is not what tools/annex_map.awk draws of scenes/S.annex"; exit 1; }
 
 # What make help lists.
 for target in $(sed -n 's/^\.PHONY: run /run /p' Makefile); do
