@@ -81,7 +81,7 @@ all-of P d [] each = tt
 all-of P d (x ∷ xs) each = (each 0 (omega arith), all-of P d xs (λ k h. each (suc k) (omega (arith, h))))
 
 module _ (base sup : List ℕ) (exempt : Bool) where
-  region-window : (w : Window) → regionIn base sup exempt w .window ≡ w
+  pub region-window : (w : Window) → regionIn base sup exempt w .window ≡ w
   region-window w = go (eqb (w .code) 1) (eqb (w .code) 2) (eqb (w .code) 3) refl refl refl
     where
       go : (a b c : Bool) → eqb (w .code) 1 ≡ a → eqb (w .code) 2 ≡ b → eqb (w .code) 3 ≡ c → regionIn base sup exempt w .window ≡ w
@@ -94,14 +94,18 @@ module _ (base sup : List ℕ) (exempt : Bool) where
   f ws x = grantedOver base sup exempt ws x
 
   module _ (x : ℕ) where
-    none-contain : (ws : List Window) → All (λ w. contains w x ≡ false) ws → All (λ r. contains (r .window) x ≡ false) (map (regionIn base sup exempt) ws)
+    none-contain :
+        (ws : List Window) → All (λ w. contains w x ≡ false) ws →
+        All (λ r. contains (r .window) x ≡ false) (map (regionIn base sup exempt) ws)
     none-contain [] a = tt
     none-contain (w ∷ ws) a = (ap (λ v. contains v x) (region-window w) ∙ a .0, none-contain ws (a .1))
 
     pub no-window : (ws : List Window) → All (λ w. contains w x ≡ false) ws → f ws x ≡ Nothing
     no-window ws a = granted-none (map (regionIn base sup exempt) ws) x (none-contain ws a)
 
-    elsewhere : (ws : List Window) → All (λ w. w .present ≡ true → Sited w) ws → All (λ w. hasSlot (l1Slot x) w ≡ false) ws → All (λ w. contains w x ≡ false) ws
+    elsewhere :
+        (ws : List Window) → All (λ w. w .present ≡ true → Sited w) ws → All (λ w. hasSlot (l1Slot x) w ≡ false) ws →
+        All (λ w. contains w x ≡ false) ws
     elsewhere [] s a = tt
     elsewhere (w ∷ ws) s a = (not-here boardLimit w x (λ p. s .0 p .within) (a .0), elsewhere ws (s .1) (a .1))
 
@@ -115,12 +119,16 @@ module _ (base sup : List ℕ) (exempt : Bool) where
         go true false p q = refl
         go true true p q = absurd (apart here p (same ∙ sym (eqb-true _ _ q)))
 
-    first-window : (w : Window) (ws : List Window) → f (w ∷ ws) x ≡ pick (contains w x) (grantedIn (regionIn base sup exempt w) x) (f ws x)
+    pub first-window :
+        (w : Window) (ws : List Window) →
+        f (w ∷ ws) x ≡ pick (contains w x) (grantedIn (regionIn base sup exempt w) x) (f ws x)
     first-window w ws = go (contains w x) refl
       where
         go : (b : Bool) → contains w x ≡ b → f (w ∷ ws) x ≡ pick b (grantedIn (regionIn base sup exempt w) x) (f ws x)
-        go true e = grant-here (regionIn base sup exempt w) (map (regionIn base sup exempt) ws) x (ap (λ v. contains v x) (region-window w) ∙ e)
-        go false e = grant-past (regionIn base sup exempt w) (map (regionIn base sup exempt) ws) x (ap (λ v. contains v x) (region-window w) ∙ e)
+        go true e =
+            grant-here (regionIn base sup exempt w) (map (regionIn base sup exempt) ws) x (ap (λ v. contains v x) (region-window w) ∙ e)
+        go false e =
+            grant-past (regionIn base sup exempt w) (map (regionIn base sup exempt) ws) x (ap (λ v. contains v x) (region-window w) ∙ e)
 
     pub one-window :
         (ws : List Window) (i : ℕ) (d : Window) → i < length ws →
@@ -145,7 +153,9 @@ module _ (base sup : List ℕ) (exempt : Bool) where
     in-slot : (i : ℕ) → i < l1Span → l1Slot (s * l1Span + i) ≡ s
     in-slot i h = omega arith
 
-    pub empty-slot : All (λ w. hasSlot s w ≡ false) ws → (n : ℕ) → runsFrom (f ws) (s * l1Span) (l1Span + n) ≡ runsFrom (f ws) (suc s * l1Span) n
+    pub empty-slot :
+        All (λ w. hasSlot s w ≡ false) ws →
+        (n : ℕ) → runsFrom (f ws) (s * l1Span) (l1Span + n) ≡ runsFrom (f ws) (suc s * l1Span) n
     empty-slot none n =
         let next : s * l1Span + l1Span ≡ suc s * l1Span = omega arith in
         gap (f ws) l1Span (s * l1Span) n
@@ -243,11 +253,13 @@ module _ (base sup : List ℕ) (exempt : Bool) where
       ∙ ap (λ (t : ℕ). runsFrom (f ws) (t * l1Span) ((entries - t) * l1Span + n)) onward
 
   -- past the last slot
+  pub past-windows : (ws : List Window) → All (λ w. w .present ≡ true → Sited w) ws → (x : ℕ) → inputLimit ≤ x → f ws x ≡ Nothing
+  past-windows ws sited x h = no-window x ws (all-past ws sited)
+    where
+      all-past : (vs : List Window) → All (λ w. w .present ≡ true → Sited w) vs → All (λ w. contains w x ≡ false) vs
+      all-past [] a = tt
+      all-past (v ∷ vs) a = (past-limit boardLimit v x (λ p. a .0 p .within) h, all-past vs (a .1))
+
   pub past-slots : (ws : List Window) → Placed ws → (n : ℕ) → runsFrom (f ws) inputLimit (n + 0) ≡ []
   unfolding runsFrom
-  past-slots ws placed n =
-      gap (f ws) n inputLimit 0 (λ i h. no-window (inputLimit + i) ws (all-past (inputLimit + i) (omega arith) ws (placed .each)))
-    where
-      all-past : (x : ℕ) → inputLimit ≤ x → (vs : List Window) → All (λ w. w .present ≡ true → Sited w) vs → All (λ w. contains w x ≡ false) vs
-      all-past x h [] a = tt
-      all-past x h (v ∷ vs) a = (past-limit boardLimit v x (λ p. a .0 p .within) h, all-past x h vs (a .1))
+  past-slots ws placed n = gap (f ws) n inputLimit 0 (λ i h. past-windows ws (placed .each) (inputLimit + i) (omega arith))

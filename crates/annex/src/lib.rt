@@ -15,7 +15,8 @@ ghost use lib.ListN.{getD};
 ghost use Rattle.accepted_facts.specs.Guarded.{Guarded};
 ghost use Rattle.annex.specs.Annex.{addressCount, annexPage, AnnexAnswer, annexOf};
 ghost use Rattle.annex.specs.Windows.{regionIn, grantedOver, hasSlot, lowerSlot, NextSlot, Sited, Placed};
-ghost use Rattle.annex.specs.Writing.{beginning, Written, Onward, Across, pieceBefore, begunLength, lineAt, lengthened, lower, ProperBegun, Sound};
+ghost use Rattle.annex.specs.Writing.{beginning, Written, Onward, Across, pieceBefore, ProperBegun, Sound};
+ghost use Rattle.annex.specs.Writing.{begunLength, lineAt, lengthened, lower};
 ghost use Rattle.layout.specs.Size.{entries, page as pageSize, l1Span, inputLimit, boardLimit};
 ghost use Rattle.refusal.specs.Table.{accepted, first};
 ghost use Rattle.rows.specs.Rows.{guardRows};
@@ -261,15 +262,17 @@ fn write_pieces(
     let end = lower(count, map.len() as u64);
     for p in 0..end {
         let entry = map_entries::entry_at(map, p as usize);
-        done = write_piece(
-            page,
-            ipa + p * size,
-            pa + p * size,
-            size,
-            exempt,
-            entry,
-            done,
-        );
+        if entry != 0 {
+            done = write_piece(
+                page,
+                ipa + p * size,
+                pa + p * size,
+                size,
+                exempt,
+                entry,
+                done,
+            );
+        }
     }
     done
 }

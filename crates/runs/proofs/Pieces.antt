@@ -34,7 +34,9 @@ module _ (f : ℕ → Reached) where
 
   -- suc k addresses
   module _ (x : ℕ) (r : Reach) where
-    begins : (m : ℕ) (all : f (x + 0) ≡ At (further r 0)) → withAddress x (f x) (runsFrom f (suc x) m) ≡ before (run x x r) (runsFrom f (suc x) m)
+    begins :
+        (m : ℕ) → f (x + 0) ≡ At (further r 0) →
+        withAddress x (f x) (runsFrom f (suc x) m) ≡ before (run x x r) (runsFrom f (suc x) m)
     begins m all =
         let here : x + 0 ≡ x = omega arith in
         let same : r .pa + 0 ≡ r .pa = omega arith in

@@ -99,7 +99,9 @@ module _ (r : Run) (p : Proper r) where
           keeps (t ∷ ts) e x = joined-goes-on r s t p (c .1) e ∙ x
       go false e = (omega arith, p, e, c)
 
-  pub before-says : (rs : List Run) → Chain (suc (r .last)) rs → (y : ℕ) → reachIn (before r rs) y ≡ pick (holds r y) (runReach r y) (reachIn rs y)
+  pub before-says :
+      (rs : List Run) → Chain (suc (r .last)) rs →
+      (y : ℕ) → reachIn (before r rs) y ≡ pick (holds r y) (runReach r y) (reachIn rs y)
   unfolding before reachIn
   before-says [] c y = refl
   before-says (s ∷ rs) c y = go (goesOn r s) refl
@@ -199,7 +201,9 @@ Same x rs ts = (y : ℕ) → x ≤ y → reachIn rs y ≡ reachIn ts y
 at-first : (r : Run) (rs : List Run) → Proper r → reachIn (r ∷ rs) (r .first) ≡ runReach r (r .first)
 at-first r rs p = in-first r (r .first) rs (omega arith) p
 
-not-sooner : (x : ℕ) (r t : Run) (rs ts : List Run) → Chain x (r ∷ rs) → Chain x (t ∷ ts) → Same x (r ∷ rs) (t ∷ ts) → r .first < t .first → ⊥
+not-sooner :
+    (x : ℕ) (r t : Run) (rs ts : List Run) → Chain x (r ∷ rs) → Chain x (t ∷ ts) →
+    Same x (r ∷ rs) (t ∷ ts) → r .first < t .first → ⊥
 unfolding Same
 not-sooner x r t rs ts c d same h =
     let below = says-nothing (t .first) (r .first) (t ∷ ts) (omega arith, d .1, d .2, d .3) h in

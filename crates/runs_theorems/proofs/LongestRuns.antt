@@ -89,7 +89,9 @@ module _ (f : ℕ → Reached) where
       unled-first (t ∷ ts) = λ y e. absurd (omega (arith, e))
 
   -- the other way
-  ends-of : (x : ℕ) (r : Run) (rs : List Run) → Proper r → All Proper rs → All (λ s. r .last < s .first) rs → Longest f r → Says x (r ∷ rs) → x ≤ suc (r .last) → Ends r rs
+  ends-of :
+      (x : ℕ) (r : Run) (rs : List Run) → Proper r → All Proper rs → All (λ s. r .last < s .first) rs →
+      Longest f r → Says x (r ∷ rs) → x ≤ suc (r .last) → Ends r rs
   ends-of x r [] p proper less longest says h = tt
   ends-of x r (s ∷ ss) p proper less longest says h = go (goesOn r s) refl
     where
@@ -105,7 +107,9 @@ module _ (f : ℕ → Reached) where
           let there = in-first s y ss (omega (arith, on .next)) (omega (arith, on .next, proper .0)) in
           absurd (longest .end (says y h ∙ past-first r y (s ∷ ss) (omega arith) ∙ there ∙ alike))
 
-  chain-of : (x : ℕ) (rs : List Run) → All (λ r. x ≤ r .first) rs → All Proper rs → AllPairs (λ r s. r .last < s .first) rs → All (Longest f) rs → Says x rs → Chain x rs
+  chain-of :
+      (x : ℕ) (rs : List Run) → All (λ r. x ≤ r .first) rs → All Proper rs → AllPairs (λ r s. r .last < s .first) rs →
+      All (Longest f) rs → Says x rs → Chain x rs
   chain-of x [] from proper ascends longest says = tt
   chain-of x (r ∷ rs) from proper ascends longest says =
       let h : x ≤ suc (r .last) = omega (arith, from .0, proper .0) in (
@@ -118,6 +122,19 @@ module _ (f : ℕ → Reached) where
   pub chain-longest-runs : (rs : List Run) → LongestRuns f rs → Chain 0 rs
   chain-longest-runs rs l =
       chain-of 0 rs (all-always (λ r. 0 ≤ r .first) (λ r. omega arith) rs) (l .proper) (l .ascending) (l .longest) (λ y h. l .covers y)
+
+-- what each run says of its addresses
+pub runs-tell : (f : ℕ → Reached) (rs : List Run) → LongestRuns f rs →
+    All (λ r. (r .first ≤ r .last) × ((x : ℕ) → r .first ≤ x → x ≤ r .last → f x ≡ runReach r x)) rs
+runs-tell f rs l = go 0 rs (chain-longest-runs f rs l) (λ y h. l .covers y)
+  where
+    go : (n : ℕ) (ts : List Run) → Chain n ts → Says f n ts →
+        All (λ r. (r .first ≤ r .last) × ((x : ℕ) → r .first ≤ x → x ≤ r .last → f x ≡ runReach r x)) ts
+    go n [] c says = tt
+    go n (r ∷ rs) c says = (
+      (c .1, λ x a b. says x (omega (arith, a, c .0)) ∙ in-first r x rs a b),
+      go (suc (r .last)) rs (c .3) (onward f n r rs (omega (arith, c .0, c .1)) says),
+    )
 
 pub runs-are-longest : RunsAreLongest
 runs-are-longest f n none = longest-runs f (runsFrom f 0 n) (runs-chain f n 0) says

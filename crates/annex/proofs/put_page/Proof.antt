@@ -24,7 +24,8 @@ slice-aggregate-write c = search needs
 
 write-requires : tie.Need-write-requires
 write-requires c κs =
-    let start = c .before .before .before .before in guarded-facts boardLimit (now (start .args .base)) (now (start .args .sup)) (start .args .l) (start .pre)
+    let start = c .before .before .before .before in
+    guarded-facts boardLimit (now (start .args .base)) (now (start .args .sup)) (start .args .l) (start .pre)
 
 -- nothing is lent to the pass that counts
 untouched : (c : tie.After-write) → c .write .last .0 ≡ []
@@ -35,7 +36,8 @@ counts : (c : tie.After-write) →
     let a = c .before .before .before .before .before .args in
     c .write .result ≡ length (annexPage (a .l) (now (a .base)) (now (a .sup)))
 counts c =
-    let a = c .before .before .before .before .before .args in all-long (annexPage (a .l) (now (a .base)) (now (a .sup))) _ (c .write .ensures)
+    let a = c .before .before .before .before .before .args in
+    all-long (annexPage (a .l) (now (a .base)) (now (a .sup))) _ (c .write .ensures)
 
 same-length : tie.Need-same-length
 same-length c = search needs
@@ -56,7 +58,8 @@ returns c =
 
 write-requires-2 : tie.Need-write-requires-2
 write-requires-2 c κs =
-    let start = c .before .before .before .before .before .before .before .before .before in guarded-facts boardLimit (now (start .args .base)) (now (start .args .sup)) (start .args .l) (start .pre)
+    let start = c .before .before .before .before .before .before .before .before .before in
+    guarded-facts boardLimit (now (start .args .base)) (now (start .args .sup)) (start .args .l) (start .pre)
 
 same-length-2 : tie.Need-same-length-2
 same-length-2 c = search needs

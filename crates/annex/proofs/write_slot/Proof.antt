@@ -42,8 +42,8 @@ write-window-requires c κs =
     let a = start .args in
     let there : h .loop .i < length (a .t4) = omega (arith, v .before .before .loop-test .taken, start .good .1 .1 .1 .0 .1 .0 .1) in
     let in-it = has (a .s) (getD (a .t4) (h .loop .i) noWindow) (sym (v .has-slot .ensures) ∙ c .before .if1 .taken) in
-    let begins = starts (now (a .base)) (now (a .sup)) (a .exempt) (a .t4) (start .pre .0) (a .s) (start .pre .1 .0) (h .loop .i) noWindow there
-    (in-it .0) (in-it .1) in (
+    let begins = starts (now (a .base)) (now (a .sup)) (a .exempt) (a .t4) (start .pre .0) (a .s) (start .pre .1 .0) (h .loop .i) noWindow
+    there (in-it .0) (in-it .1) in (
       all-at (λ w. w .present ≡ true → Sited w) (a .t4) (h .loop .i) noWindow there (start .pre .0 .each) (in-it .0),
       record { few = omega (arith, start .pre .1 .1 .few, begins); proper = start .pre .1 .1 .proper },
     )
@@ -60,10 +60,11 @@ returns c =
     let a = start .args in
     let there : h .loop .i < length (a .t4) = omega (arith, v .before .before .loop-test .taken, start .good .1 .1 .1 .0 .1 .0 .1) in
     let in-it = has (a .s) (getD (a .t4) (h .loop .i) noWindow) (sym (v .has-slot .ensures) ∙ d .before .before .if1 .taken) in
-    let stays = ends (now (a .base)) (now (a .sup)) (a .exempt) (a .t4) (start .pre .0) (a .s) (start .pre .1 .0) (h .loop .i) noWindow there
-    (in-it .0) (in-it .1) in
-    let across = slot-across (now (a .base)) (now (a .sup)) (a .exempt) (a .t4) (start .pre .0) (a .s) (start .pre .1 .0) (h .loop .i) noWindow
-    there (in-it .0) (in-it .1) (a .done) (h .loop .page) (d .write-window .result) (d .write-window .last .0) (d .write-window .ensures .1) in (
+    let stays = ends (now (a .base)) (now (a .sup)) (a .exempt) (a .t4) (start .pre .0) (a .s) (start .pre .1 .0) (h .loop .i) noWindow
+    there (in-it .0) (in-it .1) in
+    let across = slot-across (now (a .base)) (now (a .sup)) (a .exempt) (a .t4) (start .pre .0) (a .s) (start .pre .1 .0) (h .loop .i)
+    noWindow there (in-it .0) (in-it .1) (a .done) (h .loop .page) (d .write-window .result) (d .write-window .last .0)
+    (d .write-window .ensures .1) in (
       record { few = omega (arith, d .write-window .ensures .0 .few, stays); proper = d .write-window .ensures .0 .proper },
       λ n text old w.
           across n text old (with-bytes (sym (h .loop .inv .0)) w),
@@ -73,7 +74,9 @@ add-i : tie.Need-add-i Inv-loop μ-loop
 add-i c = search needs
 
 loop-less : tie.Need-loop-less Inv-loop μ-loop
-loop-less c = omega (arith, c .before .before .before .loop-test .taken, c .before .before .before .before .before .before .before .before .good .1 .1 .1 .0 .1 .0 .1)
+loop-less c =
+    let start = c .before .before .before .before .before .before .before .before in
+    omega (arith, c .before .before .before .loop-test .taken, start .good .1 .1 .1 .0 .1 .0 .1)
 
 loop-again : tie.Need-loop-again Inv-loop μ-loop
 loop-again c =

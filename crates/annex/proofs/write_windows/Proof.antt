@@ -57,11 +57,13 @@ returns c =
     let all = d .write-slots .ensures .1 n text old (none-yet text old) in
     let gone = with-runs (done .begun) (past-slots (now (a .base)) (now (a .sup)) (a .exempt) (a .ws) (start .pre) n) all in
     let closed = finishes text old (done .begun) (d .write-slots .last .0) (done .at) gone in
-    let bytes : p .put .last .1 .0 ≡ putAt lastLine (lineAt (done .begun) (done .at) (d .write-slots .last .0)) (done .at + begunLength (done .begun)) =
+    let left = lineAt (done .begun) (done .at) (d .write-slots .last .0) in
+    let bytes : p .put .last .1 .0 ≡ putAt lastLine left (done .at + begunLength (done .begun)) =
     p .put .ensures
     ∙ ap₂ (λ (t b : List ℕ). putAt t b (k .close .result)) (l .last-line .ensures) (k .close .ensures .1)
-    ∙ ap (putAt lastLine (lineAt (done .begun) (done .at) (d .write-slots .last .0))) (k .close .ensures .0) in
-    subst (λ (e : ℕ). Written text old [] (e + lineLength) (p .put .last .1 .0)) (sym (k .close .ensures .0)) (with-bytes (sym bytes) closed)
+    ∙ ap (putAt lastLine left) (k .close .ensures .0) in
+    subst (λ (e : ℕ). Written text old [] (e + lineLength) (p .put .last .1 .0)) (sym (k .close .ensures .0))
+    (with-bytes (sym bytes) closed)
 
 pub write-windows-spec : {M : Type 1} → statement M
 write-windows-spec =

@@ -1,0 +1,2 @@
+pub mod Annex
+pub mod Below

@@ -1,0 +1,1 @@
+// What the annex page says of walks over encoded tables: theorems alone.
