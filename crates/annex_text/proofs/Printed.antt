@@ -7,7 +7,7 @@ use lib.ListN.{length, take}
 use lib.Seq.{take-append-seam}
 use Rattle.annex.proofs.Rows.{fits}
 use Rattle.annex.specs.Annex.{annexPage, row27, annexRows, annexOutcome, annexLeft, AnnexAnswer}
-use Rattle.annex_text.specs.Text.{printedBy}
+use Rattle.annex_text.specs.Text.{annexBy}
 use Rattle.annex_theorems.proofs.LongestPage.{longest-page}
 use Rattle.annex_theorems.specs.LongestPage.{longestPage}
 use Rattle.layout.specs.Size.{boardLimit}
@@ -23,7 +23,7 @@ use Rattle.text.specs.Front.{putAt}
 -- by the outcome
 written :
     (o : Outcome) (page old : List ℕ) (n : ℕ) (new : List ℕ) →
-    told n ≡ after o (length page) → new ≡ annexLeft o page old → Puts (printedBy o page) old n new
+    told n ≡ after o (length page) → new ≡ annexLeft o page old → Puts (annexBy o page) old n new
 written accepted page old n new t b = record { long = cc; bytes = b }
 written (refused r) page old n new t b = absurd (let z : _≡_ {A = ℕ} 0 1 = cc in omega arith)
 
@@ -63,7 +63,7 @@ module _ (l : Layout) (base sup old : List ℕ) (enough : longestPage ≤ length
       go [] e = fits l base sup old (ap first e) (omega (arith, longest-page l base sup (ap first e))) ∙ sym (ap first e)
       go (r ∷ rs) e = ap (λ (x : List Row). first (x ++ (row27 page old ++ []))) e ∙ sym (ap first e)
 
-  pub page-printed : (n : ℕ) (new : List ℕ) → AnnexAnswer l base sup old (told n) new → Puts (printedBy (first rows) page) old n new
+  pub page-printed : (n : ℕ) (new : List ℕ) → AnnexAnswer l base sup old (told n) new → Puts (annexBy (first rows) page) old n new
   page-printed n new a =
       written (first rows) page old n new
       (a .tells ∙ ap (λ (o : Outcome). after o (length page)) outcome)
@@ -72,11 +72,11 @@ module _ (l : Layout) (base sup old : List ℕ) (enough : longestPage ≤ length
   pub row-printed :
       (r : Row) (left : List ℕ) → AnnexAnswer l base sup old (denied r) left →
       (spare line new : List ℕ) (n : ℕ) → Puts (refusedLine (r .number)) spare n line → new ≡ putAt (take n line) left 0 →
-      Puts (printedBy (first rows) page) old n new
+      Puts (annexBy (first rows) page) old n new
   row-printed r left a spare line new n p e =
       let is = refuses (first rows) page old r left
       (a .tells ∙ ap (λ (o : Outcome). after o (length page)) outcome)
       (a .buffer ∙ ap (λ (o : Outcome). annexLeft o page old) outcome) in
       let few : n ≤ length old = omega (arith, p .long, refused-short (r .number), enough) in
-      subst (λ (o : Outcome). Puts (printedBy o page) old n new) (sym (is .0))
+      subst (λ (o : Outcome). Puts (annexBy o page) old n new) (sym (is .0))
       (line-printed (refusedLine (r .number)) spare n line old new p few (e ∙ ap (λ (b : List ℕ). putAt (take n line) b 0) (is .1)))

@@ -11,21 +11,21 @@ use Rattle.scene.specs.Scene.{Scene, unset}
 use Rattle.scene_text.specs.Text.{Read, whole, badLine, readFrom}
 
 -- a refused scene prints its row's number, another its page
-abbrev pub printedBy : Outcome → List ℕ → List ℕ
-printedBy (refused r) page = refusedLine (r .number)
-printedBy accepted page = page
+abbrev pub annexBy : Outcome → List ℕ → List ℕ
+annexBy (refused r) page = refusedLine (r .number)
+annexBy accepted page = page
 
 -- rows 2 to 14: there is room for the longest page, so that 27 does not apply
-unfoldable pub printedOf : Scene → List ℕ
-printedOf s =
+unfoldable pub annexScene : Scene → List ℕ
+annexScene s =
     let l = layoutOf (s .numbers) in
-    printedBy (first (guardRows boardLimit (s .base) (s .sup) l)) (annexPage l (s .base) (s .sup))
+    annexBy (first (guardRows boardLimit (s .base) (s .sup) l)) (annexPage l (s .base) (s .sup))
 
 -- a line outside the form prints BAD LINE
-abbrev pub printedRead : Read → List ℕ
-printedRead (whole s) = printedOf s
-printedRead (badLine s) = badLineText
+abbrev pub annexRead : Read → List ℕ
+annexRead (whole s) = annexScene s
+annexRead (badLine s) = badLineText
 
 -- the bytes that are printed of the bytes that are read
 unfoldable pub annexText : List ℕ → List ℕ
-annexText text = printedRead (readFrom unset text)
+annexText text = annexRead (readFrom unset text)

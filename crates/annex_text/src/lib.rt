@@ -3,7 +3,7 @@ use annex::Annexed;
 use layout::Layout;
 ghost use Prim.Native.Nat.{_≤_};
 ghost use lib.ListN.{length};
-ghost use Rattle.annex_text.specs.Text.{printedOf, printedRead};
+ghost use Rattle.annex_text.specs.Text.{annexScene, annexRead};
 ghost use Rattle.annex_theorems.specs.LongestPage.{longestPage};
 ghost use Rattle.printed.specs.Line.{Puts};
 ghost use Rattle.scene.specs.Scene.{scene};
@@ -18,7 +18,7 @@ pub fn print(
     sup: &[u8],
     out: &mut [u8; annex::LONGEST],
 ) -> usize
-    ensures { λ r. ⌜ Puts (printedRead (readOf said (scene (now (numbers .entry)) (now (base .entry)) (now (sup .entry)))))
+    ensures { λ r. ⌜ Puts (annexRead (readOf said (scene (now (numbers .entry)) (now (base .entry)) (now (sup .entry)))))
         (now (out .entry)) r (now (out .exit)) ⌝ }
 {
     if said {
@@ -33,7 +33,7 @@ pub fn print(
 // No page is longer than the buffer.
 fn print_scene(numbers: &[u64; Layout::NUMBERS], base: &[u8], sup: &[u8], out: &mut [u8]) -> usize
     requires { ⌜ longestPage ≤ length (now out) ⌝ }
-    ensures { λ r. ⌜ Puts (printedOf (scene (now (numbers .entry)) (now (base .entry)) (now (sup .entry))))
+    ensures { λ r. ⌜ Puts (annexScene (scene (now (numbers .entry)) (now (base .entry)) (now (sup .entry))))
         (now (out .entry)) r (now (out .exit)) ⌝ }
 {
     match annex::annex(out, base, sup, layout_numbers::layout_of(numbers)) {

@@ -9,7 +9,7 @@ use denote.Ref.{now}
 use Rattle.annex.specs.Annex.{AnnexAnswer, annexOf}
 use Rattle.annex.specs.declared.Annexed.{Annexed}
 use Rattle.annex_text.proofs.Printed.{page-printed, row-printed}
-use Rattle.annex_text.specs.Text.{printedOf}
+use Rattle.annex_text.specs.Text.{annexScene}
 use Rattle.layout.specs.Layout.{layoutOf}
 use Rattle.layout.specs.declared.Layout.{Layout}
 use Rattle.printed.proofs.Front.{lies-within}
@@ -64,7 +64,7 @@ same-length : tie.Need-same-length
 same-length c = search needs
 
 returns : tie.Need-returns
-unfolding printedOf
+unfolding annexScene
 returns c =
     let t = c .before in
     let x = t .before .before .before .before in
@@ -80,7 +80,7 @@ same-length-2 : tie.Need-same-length-2
 same-length-2 c = search needs
 
 returns-2 : tie.Need-returns-2
-unfolding printedOf
+unfolding annexScene
 returns-2 c =
     let p = c .before .before in
     let f = p .before .before .before in

@@ -2,7 +2,7 @@
 use mathlib.Core.Path.{subst}
 use borrow.Author.Needs.{needs}
 use denote.Ref.{now}
-use Rattle.annex_text.specs.Text.{printedRead, annexText}
+use Rattle.annex_text.specs.Text.{annexRead, annexText}
 use Rattle.printed.specs.Line.{Puts}
 use Rattle.scene_text.specs.Text.{Read}
 use Rattle.s2annex.proofs.read_page.Statement.{statement}
@@ -37,7 +37,7 @@ returns c =
     let old = now (v .before .before .before .before .args .page) in
     let print = c .print in (
       v .read-scene .ensures .0,
-      subst (λ (x : Read). Puts (printedRead x) old (print .result) (print .last .1 .1 .1 .1 .0))
+      subst (λ (x : Read). Puts (annexRead x) old (print .result) (print .last .1 .1 .1 .1 .0))
           (v .read-scene .ensures .1)
           (print .ensures),
     )
