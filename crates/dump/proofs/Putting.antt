@@ -2,7 +2,6 @@
 use Prim.Native.Nat.{ℕ, _≤_}
 use mathlib.Core.List.{List, []}
 use mathlib.Core.Path.{_≡_, refl}
-use native.Mathlib.Omega.{arith}
 use lib.ListN.{length, getD, List·getD-eq-default}
 use borrow.Author.Tests.{eq-eqb, ne-eqb}
 use Rattle.arena.specs.Encoded.{tableOf, indexOf}
@@ -14,7 +13,7 @@ use Rattle.dump.specs.declared.Answer.the-variants.{Words}
 
 -- no byte is put
 pub none-put : (old : List ℕ) → Puts [] old 0 old
-none-put old = record { long = refl; fits = omega arith; bytes = refl }
+none-put old = record { long = refl; bytes = refl }
 
 module _ (line : List ℕ) (i : ℕ) where
   pub alone-first : i ≡ 0 → alone i line ≡ line

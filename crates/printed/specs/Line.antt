@@ -1,5 +1,5 @@
 -- The lines that are printed where a scene has no words, by document 01 ("Proved and printed").
-use Prim.Native.Nat.{ℕ, zero, suc, _+_, _/_, _%_, _≤_}
+use Prim.Native.Nat.{ℕ, zero, suc, _+_, _/_, _%_}
 use mathlib.Core.List.{List, [], _∷_, _++_}
 use mathlib.Core.Path.{_≡_}
 use lib.Dec.{ltb}
@@ -24,8 +24,7 @@ refusedLine number = ascii "REFUSED " ++ (decimal 20 number ++ (lineFeed ∷ [])
 abbrev pub longest : ℕ
 longest = 29
 
--- a buffer that is lent for a line, at entry and exit, and the length that is returned
+-- a buffer that is lent for a text, at entry and exit, and the length that is returned
 pub record Puts (text old : List ℕ) (n : ℕ) (new : List ℕ) : Type 0 where
   pub long : n ≡ length text
-  pub fits : n ≤ longest
   pub bytes : new ≡ inFront text old

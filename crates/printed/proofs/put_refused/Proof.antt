@@ -91,7 +91,6 @@ returns c =
     t .put3 .ensures .0 ∙ ap (λ k. k + 1) long ∙ sym (length-append (front ++ number) feed) in
     record {
       long = end ∙ ap length text;
-      fits = omega (arith, t .put3 .ensures .0, q .put2 .ensures .0, f .put .ensures .0, d .decimal .ensures .0, short);
       bytes = three ∙ ap (λ l. inFront l old) text;
     }
 

@@ -7,7 +7,6 @@ use borrow.Author.Needs.{needs}
 use denote.Ref.{now}
 use Rattle.text.proofs.Front.{put-first}
 use Rattle.text.specs.Front.{inFront}
-use Rattle.printed.proofs.Front.{word-line-length}
 use Rattle.printed.proofs.word_line.Statement.{statement}
 use Rattle.printed.proofs.word_line.Tie as tie
 
@@ -28,10 +27,8 @@ returns c =
     let old = now (a .out) in
     let said = w .spelled-word .ensures in
     let none : 0 + length text ≡ length text = omega arith in
-    let long = c .put .ensures .0 ∙ none ∙ ap length said in
     record {
-      long = long;
-      fits = omega (arith, long, word-line-length (a .table) (a .index) (a .word));
+      long = c .put .ensures .0 ∙ none ∙ ap length said;
       bytes = c .put .ensures .1 ∙ put-first old text ∙ ap (λ t. inFront t old) said;
     }
 
