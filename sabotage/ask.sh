@@ -1,7 +1,7 @@
 #!/bin/sh
-# ask.sh NUMBER: how the comparison notices the fault, as one line: its number, a word, and what it says first. A hunt that finds nothing takes some 10
-# seconds of the processor's time.
-ulimit -t 40
+# ask.sh NUMBER: how the comparison notices the fault, as one line: its number, a word, and what it says first. A hunt that finds nothing takes
+# some 27 seconds of the processor's time: one that is stopped at 100 does not end.
+ulimit -t 100
 { said=$(FAULT=$1 target/sabotage/oracle/release/judge hunt 2>&1); } 2>/dev/null
 case $? in
     0) how=missed ;;
