@@ -3,7 +3,6 @@
 use layout::Layout;
 use layout::SuperWindow;
 use layout::Window;
-use perm::Perm;
 use reach::Reached;
 use refusal::Refusal;
 use refusal::Verdict;
