@@ -4,8 +4,8 @@
 # shown. And make help lists every target that is no step of another.
 set -eu
 cd "$(dirname "$0")/.."
-# docs/ has a folder for the notes on changes.
-docs=$(find docs -name '*.md' | sort)
+# A note of docs/changes is of the project as its request left it, and is not held to what later ones make of it.
+docs=$(ls docs/*.md)
 pages="README.md NOTICE $docs crates/README.md oracle/README.md arm/README.md board/README.md"
 
 # says PAGE TEXT: the page has the text.
