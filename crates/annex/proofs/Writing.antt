@@ -12,7 +12,7 @@ use Rattle.annex.specs.declared.Begun.the-variants.{Run as Going, Nothin
 use Rattle.fields.specs.Named.{pick}
 use Rattle.runs.proofs.Joined.{Proper, follows, one-before, two-before}
 use Rattle.runs.proofs.Page.{line-length, last-length, page-none, page-next}
-use Rattle.runs.specs.Page.{lineLength, lineOf, lastLine, pageOf}
+use Rattle.runs.specs.Page.{lineLength, runLine, lastLine, pageOf}
 use Rattle.runs.specs.Runs.{goesOn, joined, before}
 use Rattle.runs.specs.declared.Run.{Run}
 use Rattle.text.proofs.Front.{room, length-put, put-next}
@@ -80,10 +80,10 @@ module _ (text old : List ℕ) where
 
   pub line-on :
       (r : Run) (rs : List Run) (now : List ℕ) (at : ℕ) → Written text old (pageOf (r ∷ rs)) at now →
-      Written text old (pageOf rs) (at + lineLength) (putAt (lineOf r) now at)
+      Written text old (pageOf rs) (at + lineLength) (putAt (runLine r) now at)
   line-on r rs now at w =
-      let put = put-on (lineOf r) (pageOf rs) now at (subst (λ p. Written text old p at now) (page-next r rs) w) in
-      subst (λ n. Written text old (pageOf rs) (at + n) (putAt (lineOf r) now at)) (line-length r) put
+      let put = put-on (runLine r) (pageOf rs) now at (subst (λ p. Written text old p at now) (page-next r rs) w) in
+      subst (λ n. Written text old (pageOf rs) (at + n) (putAt (runLine r) now at)) (line-length r) put
 
   -- the line of a run that has begun, if there is one
   pub closes :

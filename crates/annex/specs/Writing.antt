@@ -7,7 +7,7 @@ use lib.ListN.{length}
 use Rattle.fields.specs.Named.{pick}
 use Rattle.reach.specs.declared.Reached.{Reached}
 use Rattle.reach.specs.declared.Reached.the-variants.{At, Nothing}
-use Rattle.runs.specs.Page.{lineLength, lineOf, pageOf}
+use Rattle.runs.specs.Page.{lineLength, runLine, pageOf}
 use Rattle.runs.specs.Runs.{run, goesOn, joined, before, runsFrom}
 use Rattle.runs.specs.declared.Run.{Run}
 use Rattle.text.specs.Front.{inFront, putAt}
@@ -55,7 +55,7 @@ lengthened None s = None
 
 -- the line of a run that has begun is put, where there is room for it
 abbrev pub lineAt : Begun → ℕ → List ℕ → List ℕ
-lineAt (Going r) at bytes = putAt (lineOf r) bytes at
+lineAt (Going r) at bytes = putAt (runLine r) bytes at
 lineAt None at bytes = bytes
 
 -- some bytes of one answer, before the runs that follow
@@ -71,7 +71,8 @@ abbrev pub ProperBegun : Begun → Type 0
 ProperBegun (Going r) = r .first ≤ r .last
 ProperBegun None = Unit
 
--- every run has more addresses than its line has bytes, so that no index leaves 64 bits
+-- the bytes so far are no more than the address that is gone to, since every run has more addresses than its line has bytes: so no index
+-- leaves 64 bits
 pub record Sound (p : Progress) (x : ℕ) : Type 0 where
   pub few : p .at ≤ x
   pub proper : ProperBegun (p .begun)

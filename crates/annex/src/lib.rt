@@ -128,7 +128,7 @@ fn write_slots(
     done
 }
 
-// The lowest slot from this one on that has a window, or the count of slots.
+// The next slot to go to: none from this one on and before it has a window. It is the count of slots where none is left.
 fn next_slot(ws: [Window; Layout::WINDOWS], from: u64) -> u64
     requires { ⌜ from ≤ entries ⌝ }
     ensures { λ r. ⌜ NextSlot ws from r ⌝ }

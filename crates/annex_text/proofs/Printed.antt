@@ -47,7 +47,10 @@ line-printed text spare n line old new p h e =
       bytes = e ∙ ap (λ (t : List ℕ). putAt t old 0) front ∙ room text old 0 all ∙ put-first old text;
     }
 
-module _ (l : Layout) (base sup old : List ℕ) (enough : longestPage ≤ length old) where
+module _ (l : Layout) (base sup old : List ℕ) (room : length old ≡ longestPage) where
+  enough : longestPage ≤ length old
+  enough = omega (arith, room)
+
   abbrev rows : List Row
   rows = guardRows boardLimit base sup l
 

@@ -1,7 +1,7 @@
 // The annex page of a scene, as it is printed (request M-100).
 use annex::Annexed;
 use layout::Layout;
-ghost use Prim.Native.Nat.{_≤_};
+ghost use mathlib.Core.Path.{_≡_};
 ghost use lib.ListN.{length};
 ghost use Rattle.annex_text.specs.Text.{annexScene, annexRead};
 ghost use Rattle.annex_theorems.specs.LongestPage.{longestPage};
@@ -32,7 +32,7 @@ pub fn print(
 
 // No page is longer than the buffer.
 fn print_scene(numbers: &[u64; Layout::NUMBERS], base: &[u8], sup: &[u8], out: &mut [u8]) -> usize
-    requires { ⌜ longestPage ≤ length (now out) ⌝ }
+    requires { ⌜ length (now out) ≡ longestPage ⌝ }
     ensures { λ r. ⌜ Puts (annexScene (scene (now (numbers .entry)) (now (base .entry)) (now (sup .entry))))
         (now (out .entry)) r (now (out .exit)) ⌝ }
 {

@@ -15,13 +15,13 @@ use Rattle.refusal.specs.Table.{first, eachFrom, pairs}
 use Rattle.rows.specs.Examples.{sceneS, baseS, supS, line}
 use Rattle.rows.specs.Rows.{row2, row3, row4, row5, row6, row7, row8, row9, row10, row13, row14, lengthRows, mapRows, pairRows, windowRows}
 use Rattle.rows.specs.Rows.{refusalsAt, guardRows}
-use Rattle.runs.specs.Page.{lineLength, lineOf, lastLine, pageOf}
+use Rattle.runs.specs.Page.{lineLength, runLine, lastLine, pageOf}
 use Rattle.runs.specs.Runs.{before}
 use Rattle.runs.specs.declared.Run.{Run}
 
 pub annex-examples : AnnexExamples
 unfolding layoutOf first flatMap eachFrom pairs row2 row3 row4 row5 row6 row7 row8 row9 row10 row13 row14 lengthRows mapRows
-    pairRows windowRows refusalsAt guardRows annexRows before pieceRuns windowRuns slotRuns allRuns lineOf lastLine pageOf
+    pairRows windowRows refusalsAt guardRows annexRows before pieceRuns windowRuns slotRuns allRuns runLine lastLine pageOf
 annex-examples =
     let runs-of-S = computed-runs (layoutOf sceneS) baseS supS refl in
     let runs-of-full = computed-runs (layoutOf full) (alternating 256) (alternating 256) refl in

@@ -30,7 +30,7 @@ use Rattle.reach.specs.declared.Reached.{Reached}
 use Rattle.reach.specs.declared.Reached.the-variants.{At as Reaches, Nothing}
 use Rattle.refusal.specs.All.{All}
 use Rattle.runs.proofs.Page.{line-length, last-length, page-none, page-next}
-use Rattle.runs.specs.Page.{lineLength, lineOf, pageOf}
+use Rattle.runs.specs.Page.{lineLength, runLine, pageOf}
 use Rattle.runs.specs.Runs.{goesOn, before}
 use Rattle.runs.specs.declared.Run.{Run}
 use Rattle.window_reach.specs.Granted.{byEntry}
@@ -171,7 +171,7 @@ pub page-length : (rs : List Run) → length (pageOf rs) ≡ suc (length rs) * l
 page-length [] = ap length page-none ∙ last-length
 page-length (r ∷ rs) =
     ap length (page-next r rs)
-    ∙ length-append (lineOf r) (pageOf rs)
+    ∙ length-append (runLine r) (pageOf rs)
     ∙ omega (arith, line-length r, page-length rs)
 
 pub longest-page : LongestPage

@@ -11,9 +11,10 @@ use Rattle.accepted_facts.proofs.Guarded.{guarded-facts, arena-guarded-facts}
 use Rattle.accepted_facts.specs.Accepted.{Accepted}
 use Rattle.annex.proofs.Placed.{placed, grants}
 use Rattle.annex.proofs.Slots.{past-windows}
-use Rattle.annex.specs.Annex.{addressCount, annexRuns}
-use Rattle.annex_walks.proofs.Below.{output-below}
-use Rattle.annex_walks.specs.Annex.{Exactly, Spelled, AnnexOfGrants, OfWords, AnnexOfTargets, AnnexOfEncoded}
+use Rattle.annex.specs.Annex.{addressCount, annexRuns, annexPage}
+use Rattle.annex.specs.Windows.{grantedOver}
+use Rattle.annex_walks.proofs.Below.{output-below, not-rx}
+use Rattle.annex_walks.specs.Annex.{Exactly, AnnexOfGrants, OfWords, AnnexOfTargets, AnnexOfEncoded}
 use Rattle.demand_2.proofs.Demand2.{demand-2-whole, demand-2-encoded}
 use Rattle.demand_2.specs.Demand2.{addressesOf, Reaches}
 use Rattle.descent.specs.Descent.{Words, wordsOf}
@@ -29,7 +30,9 @@ use Rattle.refusal.specs.All.{All}
 use Rattle.runs.specs.declared.Run.{Run}
 use Rattle.runs_theorems.proofs.LongestRuns.{runs-are-longest, one-list-of-runs, runs-tell}
 use Rattle.runs_theorems.proofs.Reach.{reached≢nothing}
+use Rattle.runs_theorems.proofs.Reading.{pages-are-read, one-reading}
 use Rattle.runs_theorems.specs.LongestRuns.{runReach, Leads, Longest, LongestRuns}
+use Rattle.runs_theorems.specs.Reading.{Spelled}
 use Rattle.walk.specs.Walk.{walkOf}
 use Rattle.window_reach.specs.Granted.{granted}
 
@@ -61,10 +64,8 @@ module _ (l : Layout) (base sup : List ℕ) (facts : Accepted boardLimit l) wher
       ap (λ (g : ℕ → Reached). g x) (grants l base sup)
       ∙ past-windows base sup (l .«sup_wx_exempt») (windowsOf l) (placed l facts .each) x h
 
-  below-limit : (x : ℕ) (a : Reach) → f x ≡ At a → a .pa < boardLimit
-  below-limit x a e =
-      output-below base sup (l .«sup_wx_exempt») x (windowsOf l) (placed l facts .each) a
-      (sym (ap (λ (g : ℕ → Reached). g x) (grants l base sup)) ∙ e)
+  granted-there : (x : ℕ) (a : Reach) → f x ≡ At a → grantedOver base sup (l .«sup_wx_exempt») (windowsOf l) x ≡ At a
+  granted-there x a e = sym (ap (λ (g : ℕ → Reached). g x) (grants l base sup)) ∙ e
 
   longest : LongestRuns f (annexRuns l base sup)
   unfolding annexRuns
@@ -78,7 +79,14 @@ module _ (l : Layout) (base sup : List ℕ) (facts : Accepted boardLimit l) wher
       whole : (r : Run) → (r .first ≤ r .last) × ((x : ℕ) → r .first ≤ x → x ≤ r .last → f x ≡ runReach r x) → Spelled r
       whole r t =
           let at-last = t .1 (r .last) (t .0) (omega arith) in
-          record { addresses = go (ltb (r .last) inputLimit) refl at-last; outputs = below-limit (r .last) _ at-last }
+          let there = granted-there (r .last) _ at-last in
+          let sited = placed l facts .each in
+          record {
+            proper = t .0;
+            addresses = go (ltb (r .last) inputLimit) refl at-last;
+            outputs = output-below base sup (l .«sup_wx_exempt») (r .last) _ (windowsOf l) sited there;
+            access = not-rx base sup (l .«sup_wx_exempt») (r .last) _ (windowsOf l) sited there;
+          }
         where
           go : (b : Bool) → ltb (r .last) inputLimit ≡ b → f (r .last) ≡ runReach r (r .last) → r .last < 16 ^ 10
           go true e at-last = let h : r .last < inputLimit = ltb-true (r .last) inputLimit e in omega (arith, h)
@@ -88,9 +96,11 @@ pub annex-of-grants : AnnexOfGrants
 annex-of-grants l base sup let-by =
     let facts = guarded-facts boardLimit base sup l let-by .layout in
     let runs = longest l base sup facts in
+    let page = pages-are-read (annexRuns l base sup) (spelled l base sup facts) in
     record {
       grants = record { runs = runs; alone = λ ts t. one-list-of-runs (granted l base sup) ts (annexRuns l base sup) t runs };
-      spelled = spelled l base sup facts;
+      page = page;
+      no-others = λ ts t. one-reading (annexPage l base sup) ts (annexRuns l base sup) t page;
     }
 
 of-words :

@@ -1,10 +1,10 @@
 -- Request M-100's theorem: for every accepted layout and maps the page lists exactly the addresses that walks of the encoded tables reach,
 -- as the longest runs, and nothing else.
-use Prim.Native.Nat.{ℕ, _+_, _-_, _^_, _<_}
+use Prim.Native.Nat.{ℕ, _<_}
 use mathlib.Core.List.{List}
 use mathlib.Core.Path.{_≡_}
 use lib.ListN.{replicate}
-use Rattle.annex.specs.Annex.{annexRuns}
+use Rattle.annex.specs.Annex.{annexRuns, annexPage}
 use Rattle.arena.specs.Encoded.{target}
 use Rattle.demand_2.specs.Demand2.{addressesOf}
 use Rattle.descent.specs.Descent.{Words, wordsOf}
@@ -13,11 +13,11 @@ use Rattle.layout.specs.Size.{boardLimit, arenaLength}
 use Rattle.layout.specs.declared.Layout.{Layout}
 use Rattle.manual.specs.Translation.{Machine, Access, translation, allowed}
 use Rattle.reach.specs.declared.Reached.{Reached}
-use Rattle.refusal.specs.All.{All}
 use Rattle.refusal.specs.Table.{accepted, first}
 use Rattle.rows.specs.Rows.{guardRows}
 use Rattle.runs.specs.declared.Run.{Run}
 use Rattle.runs_theorems.specs.LongestRuns.{reachIn, LongestRuns}
+use Rattle.runs_theorems.specs.Reading.{PageTells}
 use Rattle.walk.specs.Walk.{walkOf}
 use Rattle.window_reach.specs.Granted.{granted}
 
@@ -26,15 +26,11 @@ pub record Exactly (f : ℕ → Reached) (rs : List Run) : Type 0 where
   pub runs : LongestRuns f rs
   pub alone : (ts : List Run) → LongestRuns f ts → ts ≡ rs
 
--- a line has a run's numbers whole: 10 hexadecimal digits hold each of its addresses, and 12 each of its outputs
-pub record Spelled (r : Run) : Type 0 where
-  pub addresses : r .last < 16 ^ 10
-  pub outputs : r .pa + (r .last - r .first) < 16 ^ 12
-
--- of what the windows grant
+-- of what the windows grant; and the page's bytes tell these runs, and no others
 pub record OfGrants (l : Layout) (base sup : List ℕ) : Type 0 where
   pub grants : Exactly (granted l base sup) (annexRuns l base sup)
-  pub spelled : All Spelled (annexRuns l base sup)
+  pub page : PageTells (annexPage l base sup) (annexRuns l base sup)
+  pub no-others : (ts : List Run) → PageTells (annexPage l base sup) ts → ts ≡ annexRuns l base sup
 
 abbrev pub AnnexOfGrants : Type 0
 AnnexOfGrants = (l : Layout) (base sup : List ℕ) → first (guardRows boardLimit base sup l) ≡ accepted → OfGrants l base sup

@@ -7,14 +7,14 @@ use lib.ListN.{length}
 use Rattle.fields.specs.Ascii.{ascii}
 use Rattle.fields.specs.Named.{pick}
 use Rattle.perm.specs.Perm.{permWrites}
-use Rattle.runs.specs.Page.{lineLength, lineOf, lastLine, pageOf}
+use Rattle.runs.specs.Page.{lineLength, runLine, lastLine, pageOf}
 use Rattle.runs.specs.declared.Run.{Run}
 
-pub line-length : (r : Run) → length (lineOf r) ≡ lineLength
-unfolding lineOf
+pub line-length : (r : Run) → length (runLine r) ≡ lineLength
+unfolding runLine
 line-length r = go (permWrites (r .perm)) (r .xn) refl refl
   where
-    go : (w x : Bool) → permWrites (r .perm) ≡ w → r .xn ≡ x → length (lineOf r) ≡ lineLength
+    go : (w x : Bool) → permWrites (r .perm) ≡ w → r .xn ≡ x → length (runLine r) ≡ lineLength
     go true true p q = rw (p, q) refl
     go true false p q = rw (p, q) refl
     go false true p q = rw (p, q) refl
@@ -28,6 +28,6 @@ pub page-none : pageOf [] ≡ lastLine
 unfolding pageOf flatMap
 page-none = refl
 
-pub page-next : (r : Run) (rs : List Run) → pageOf (r ∷ rs) ≡ lineOf r ++ pageOf rs
+pub page-next : (r : Run) (rs : List Run) → pageOf (r ∷ rs) ≡ runLine r ++ pageOf rs
 unfolding pageOf flatMap
-page-next r rs = append-assoc (lineOf r) (flatMap lineOf rs) lastLine
+page-next r rs = append-assoc (runLine r) (flatMap runLine rs) lastLine

@@ -23,8 +23,8 @@ abbrev pub lineLength : ℕ
 lineLength = 40
 
 -- first and last address in 10 upper-case hexadecimal digits each, output in 12, access; one space between, a line feed
-unfoldable pub lineOf : Run → List ℕ
-lineOf r =
+unfoldable pub runLine : Run → List ℕ
+runLine r =
     digits 10 (r .first)
     ++ (space ∷ [])
     ++ digits 10 (r .last)
@@ -42,4 +42,4 @@ lastLine = replicate 39 0x3D ++ (lineFeed ∷ [])
 
 -- a line for each run, and the last line
 unfoldable pub pageOf : List Run → List ℕ
-pageOf rs = flatMap lineOf rs ++ lastLine
+pageOf rs = flatMap runLine rs ++ lastLine

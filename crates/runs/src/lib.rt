@@ -2,7 +2,7 @@
 use perm::Perm;
 ghost use mathlib.Core.List.{[], _∷_};
 ghost use mathlib.Core.Path.{_≡_};
-ghost use Rattle.runs.specs.Page.{accessText, executeText, lineOf, lastLine};
+ghost use Rattle.runs.specs.Page.{accessText, executeText, runLine, lastLine};
 
 // Addresses with continuous output and equal access: from the first to the last, the output of the first, and access as a walk tells it.
 pub struct Run {
@@ -18,7 +18,7 @@ impl Run {
     pub const LINE: usize = 40;
 
     pub fn line(self) -> [u8; 40]
-        ensures { λ r. ⌜ r ≡ lineOf self ⌝ }
+        ensures { λ r. ⌜ r ≡ runLine self ⌝ }
     {
         let mut line = [b' '; 40];
         text::spell(self.first, &mut line[0..10]);

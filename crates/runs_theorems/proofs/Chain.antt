@@ -227,7 +227,7 @@ equal m n a b = go (ltb m n) (ltb n m) refl refl
     go false true p q = absurd (b (ltb-true n m q))
     go false false p q = omega (arith, ltb-false m n p, ltb-false n m q)
 
-with-all : (r t : Run) → r .first ≡ t .first → r .last ≡ t .last → r .pa ≡ t .pa → r .perm ≡ t .perm → r .xn ≡ t .xn → r ≡ t
+pub with-all : (r t : Run) → r .first ≡ t .first → r .last ≡ t .last → r .pa ≡ t .pa → r .perm ≡ t .perm → r .xn ≡ t .xn → r ≡ t
 with-all r t a b c d e =
     ap (λ (x : ℕ). record { first = x; last = r .last; pa = r .pa; perm = r .perm; xn = r .xn }) a
     ∙ ap (λ (x : ℕ). record { first = t .first; last = x; pa = r .pa; perm = r .perm; xn = r .xn }) b

@@ -1,3 +1,4 @@
 pub mod Chain
 pub mod LongestRuns
 pub mod Reach
+pub mod Reading

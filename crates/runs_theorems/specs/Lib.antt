@@ -1,1 +1,2 @@
 pub mod LongestRuns
+pub mod Reading

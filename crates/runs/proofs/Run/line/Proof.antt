@@ -7,7 +7,7 @@ use lib.ListN.{length, set, replicate}
 use borrow.Author.Needs.{needs}
 use borrow.Rule.Slice.PartMut.{midOf, putMid}
 use Rattle.fields.specs.Ascii.{space, lineFeed}
-use Rattle.runs.specs.Page.{accessText, executeText, lineOf}
+use Rattle.runs.specs.Page.{accessText, executeText, runLine}
 use Rattle.text.specs.Digits.{digits}
 use Rattle.runs.proofs.Run.line.Statement.{statement}
 use Rattle.runs.proofs.Run.line.Tie as tie
@@ -101,7 +101,7 @@ array-write-line-4 : tie.Need-array-write-line-4
 array-write-line-4 c = search needs
 
 returns : tie.Need-returns
-unfolding lineOf
+unfolding runLine
 returns c =
     let x = c in
     let w = x .before in
