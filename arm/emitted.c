@@ -1,4 +1,5 @@
 #include "addresses.h"
+#include "annex.h"
 #include "host.h"
 #include "random.h"
 #include "runs.h"
@@ -122,6 +123,8 @@ static void report(uint64_t scenes)
     print_count(" Ro executable", reached[0][1]);
     print_count(" Rw", reached[1][0]);
     print_count(" Rw executable", reached[1][1]);
+    print_count(" lines of annex pages", annex_lines);
+    print_count(" addresses asked for them", annex_addresses);
     print_count(" fetches", fetches);
     print_count(" not fetched", unfetched);
     print_count(" differences\n", differences);
@@ -157,9 +160,11 @@ bool run_emitted(uint64_t scenes)
         else
             whole = update(arena, scene, &list);
         begun_again += !whole;
-        if (whole)
+        if (whole) {
             judge_granted(arena, scene, &list);
+            judge_annex(scene, &list);
+        }
     }
     report(scenes);
-    return differences == 0 && all_seen(reached[0], 2) && all_seen(reached[1], 2);
+    return differences == 0 && all_seen(reached[0], 2) && all_seen(reached[1], 2) && all_seen(&annex_lines, 1);
 }

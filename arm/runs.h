@@ -8,7 +8,7 @@
 
 #include "machine.h"
 
-/* Over what the port encodes and updates, cut anywhere: the walk, the machine and the grants agree. */
+/* Over what the port encodes and updates, cut anywhere: the walk, the machine, the grants and the annex page agree. */
 bool run_emitted(uint64_t scenes);
 
 /* Over any words: the machine translates as the definition says, and the walk differs from it where docs/DIFFERENCES.md says so. */
