@@ -1,6 +1,6 @@
 -- What has a word in table 1: each window that is present, and the table that the word names.
 use Prim.Native.Nat.{ℕ}
-use mathlib.Core.Bool.{Bool, _&&_}
+use mathlib.Core.Bool.{Bool, false, _&&_}
 use mathlib.Core.List.{List, [], _∷_}
 use lib.Dec.{eqb}
 use Rattle.areas.specs.declared.Area.{Area}
@@ -22,6 +22,9 @@ superArea l = area (superWindow l) (l .«l2_sup_pa»)
 
 abbrev pub deviceArea : Layout → Area
 deviceArea l = area (deviceWindow l) (l .«l2_dev_pa»)
+
+abbrev pub noArea : Area
+noArea = record { present = false; ipa = 0; table = 0 }
 
 -- in the order in which they are stored: image, data, super, device
 abbrev pub areasOf : Layout → List Area

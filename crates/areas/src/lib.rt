@@ -1,7 +1,9 @@
 // The areas of a layout, in table 1 (hv-s2's arm64.rs).
 use layout::Layout;
+use layout::Window;
 ghost use mathlib.Core.Path.{_≡_};
-ghost use Rattle.areas.specs.Area.{areasOf, liveAreasOf, areaSlot, areaHas};
+ghost use lib.ListN.{getD};
+ghost use Rattle.areas.specs.Area.{area, noArea, areasOf, liveAreasOf, areaSlot, areaHas};
 
 // What has a word in table 1, if it is present: its first address has the slot, and the word names its table.
 pub struct Area {
@@ -10,46 +12,64 @@ pub struct Area {
     pub table: u64,
 }
 
-// Image, data, super, device.
-pub fn areas(l: Layout) -> [Area; Layout::WINDOWS]
-    ensures { λ r. ⌜ r ≡ areasOf l ⌝ }
+// Image, data, super, device; past them is none.
+fn stored_area(l: Layout, i: usize) -> Area
+    ensures { λ r. ⌜ r ≡ getD (areasOf l) i noArea ⌝ }
 {
-    let image_pa = l.guest_image_pa;
-    let image = image_pa.window();
-    let device = l.device_window();
-    [
-        Area {
-            present: image.present,
-            ipa: image.ipa,
-            table: l.l2_code_pa,
-        },
-        Area {
-            present: true,
-            ipa: l.data_ipa_base,
-            table: l.l2_data_pa,
-        },
-        Area {
+    match i {
+        0 => {
+            let image_pa = l.guest_image_pa;
+            Area::of(image_pa.window(), l.l2_code_pa)
+        }
+        1 => Area::of(l.data_window(), l.l2_data_pa),
+        2 => Area {
             present: true,
             ipa: l.sup_ipa_base,
             table: l.l2_sup_pa,
         },
-        Area {
-            present: device.present,
-            ipa: device.ipa,
-            table: l.l2_dev_pa,
+        3 => Area::of(l.device_window(), l.l2_dev_pa),
+        _ => Area {
+            present: false,
+            ipa: 0,
+            table: 0,
         },
+    }
+}
+
+pub fn areas(l: Layout) -> [Area; Layout::WINDOWS]
+    ensures { λ r. ⌜ r ≡ areasOf l ⌝ }
+{
+    [
+        stored_area(l, 0),
+        stored_area(l, 1),
+        stored_area(l, 2),
+        stored_area(l, 3),
     ]
 }
 
-// The same in verification's order: data, super, image, device.
-pub fn live_areas(l: Layout) -> [Area; Layout::WINDOWS]
-    ensures { λ r. ⌜ r ≡ liveAreasOf l ⌝ }
+// The same in verification's order: data, super, image, device. One at a time, so that no array of them is made.
+pub fn live_area(l: Layout, i: usize) -> Area
+    ensures { λ r. ⌜ r ≡ getD (liveAreasOf l) i noArea ⌝ }
 {
-    let all = areas(l);
-    [all[1], all[2], all[0], all[3]]
+    match i {
+        0 => stored_area(l, 1),
+        1 => stored_area(l, 2),
+        2 => stored_area(l, 0),
+        _ => stored_area(l, i),
+    }
 }
 
 impl Area {
+    fn of(w: Window, table: u64) -> Self
+        ensures { λ r. ⌜ r ≡ area w table ⌝ }
+    {
+        Area {
+            present: w.present,
+            ipa: w.ipa,
+            table,
+        }
+    }
+
     pub fn l1_index(self) -> u64
         ensures { λ r. ⌜ r ≡ areaSlot self ⌝ }
     {

@@ -3,20 +3,21 @@ use areas::Area;
 use layout::Layout;
 use refusal::Refusal;
 use refusal::Verdict;
-ghost use Prim.Native.Nat.{ℕ, _<_, _≤_};
+ghost use Prim.Native.Nat.{_≤_};
 ghost use mathlib.Core.Path.{_≡_};
+ghost use Rattle.areas.specs.Area.{liveAreasOf};
 ghost use Rattle.layout.specs.Size.{entries};
 ghost use Rattle.layout.specs.Window.{l2Slot};
 ghost use Rattle.refusal.specs.Outcome.{outcomeOf};
 ghost use Rattle.refusal.specs.Table.{first, given, each};
-ghost use Rattle.verify_rows.specs.Verifying.{word, liveRow, windowAt, imageAt, liveAt, otherRows, l1Rows, imageRows, dataRows};
+ghost use Rattle.verify_rows.specs.Verifying.{word, liveRow, windowAt, imageAt, liveAt, otherRows, OnlySooner, l1Rows, imageRows, dataRows};
 ghost use Rattle.verify_rows.specs.Word.{row19};
 
 // Table 1.
 pub fn verify_l1(arena: &[u64], l: Layout) -> Verdict
     ensures { λ r. ⌜ outcomeOf r ≡ first (l1Rows (now (arena .entry)) l) ⌝ }
 {
-    let live = live_words(arena, areas::live_areas(l));
+    let live = live_words(arena, l);
     let Verdict::Accepted = live else {
         return live;
     };
@@ -24,11 +25,11 @@ pub fn verify_l1(arena: &[u64], l: Layout) -> Verdict
 }
 
 // Data, super, image, device.
-fn live_words(arena: &[u64], areas: [Area; Layout::WINDOWS]) -> Verdict
-    ensures { λ r. ⌜ outcomeOf r ≡ first (each (liveRow (now (arena .entry))) areas) ⌝ }
+fn live_words(arena: &[u64], l: Layout) -> Verdict
+    ensures { λ r. ⌜ outcomeOf r ≡ first (each (liveRow (now (arena .entry))) (liveAreasOf l)) ⌝ }
 {
     for i in 0..Layout::WINDOWS {
-        let verdict = live_word(arena, areas[i]);
+        let verdict = live_word(arena, areas::live_area(l, i));
         let Verdict::Accepted = verdict else {
             return verdict;
         };
@@ -85,7 +86,7 @@ pub fn verify_data(arena: &[u64], l: Layout) -> Verdict
     other_words(arena, l, 3)
 }
 
-// Row 21 of one of tables 1 to 3. Most words are 0, and for those no slot is worked out.
+// Row 21 of one of tables 1 to 3. A word that is not 0 is compared with the slots as the layout gives them.
 fn other_words(arena: &[u64], l: Layout, table: u32) -> Verdict
     ensures { λ r. ⌜ outcomeOf r ≡ first (otherRows (now (arena .entry)) l table) ⌝ }
 {
@@ -106,10 +107,10 @@ fn other_words(arena: &[u64], l: Layout, table: u32) -> Verdict
     Verdict::Accepted
 }
 
-// An index up to which the words of a table, from j on, are 0. It works out no slot, and takes four words a turn.
+// Where to go on from j: past words that are 0, four a turn.
 fn past_zeros(arena: &[u64], table: u32, j: usize) -> usize
     requires { ⌜ j ≤ entries ⌝ }
-    ensures { λ r. ⌜ (j ≤ r) × (r ≤ entries) × ((k : ℕ) → k < r → j ≤ k → word (now (arena .entry)) table k ≡ 0) ⌝ }
+    ensures { λ r. ⌜ OnlySooner (now (arena .entry)) table j r ⌝ }
 {
     let from = Layout::first_word(table);
     // A short arena is read word by word.
@@ -140,17 +141,17 @@ fn live_at(l: Layout, table: u32, j: u64) -> bool
     ensures { λ r. ⌜ r ≡ liveAt l table j ⌝ }
 {
     match table {
-        1 => window_at(areas::live_areas(l), j),
+        1 => window_at(l, j),
         2 => image_at(l, j),
         _ => Layout::l2_index(l.data_ipa_base) == j,
     }
 }
 
-fn window_at(areas: [Area; Layout::WINDOWS], j: u64) -> bool
-    ensures { λ r. ⌜ r ≡ windowAt areas j ⌝ }
+fn window_at(l: Layout, j: u64) -> bool
+    ensures { λ r. ⌜ r ≡ windowAt (liveAreasOf l) j ⌝ }
 {
     for i in 0..Layout::WINDOWS {
-        if areas[i].has(j) {
+        if areas::live_area(l, i).has(j) {
             return true;
         }
     }

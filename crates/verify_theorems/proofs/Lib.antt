@@ -2,6 +2,7 @@ pub mod Areas
 pub mod Changed
 pub mod Examples
 pub mod LetsBy
+pub mod LiveSlots
 pub mod Sparse
 pub mod Stored
 pub mod Told

@@ -1,16 +1,11 @@
 -- `live_at` meets its contract: by the table.
 use Prim.Native.Nat.{ℕ}
-use mathlib.Core.List.{List}
 use mathlib.Core.Path.{_∙_, sym, ap}
 use borrow.Author.Needs.{needs}
 use borrow.Author.Tests.{ne-eqb}
-use Rattle.areas.specs.declared.Area.{Area}
-use Rattle.verify_rows.specs.Verifying.{windowAt, liveAt}
+use Rattle.verify_rows.specs.Verifying.{liveAt}
 use Rattle.verify_tables.proofs.live_at.Statement.{statement}
 use Rattle.verify_tables.proofs.live_at.Tie as tie
-
-live-areas-requires : tie.Need-live-areas-requires
-live-areas-requires c κs = search needs
 
 window-at-requires : tie.Need-window-at-requires
 window-at-requires c κs = search needs
@@ -23,11 +18,8 @@ l2-index-requires c κs = search needs
 
 returns : tie.Need-returns
 returns c =
-    let m = c .before .before in
-    let a = m .before .args in
-    c .window-at .ensures
-    ∙ ap (λ (areas : List Area). windowAt areas (a .j)) (c .before .live-areas .ensures)
-    ∙ sym (ap (λ (t : ℕ). liveAt (a .l) t (a .j)) (m .match .keys1))
+    let a = c .before .before .args in
+    c .window-at .ensures ∙ sym (ap (λ (t : ℕ). liveAt (a .l) t (a .j)) (c .before .match .keys1))
 
 returns-2 : tie.Need-returns-2
 returns-2 c =
@@ -41,4 +33,4 @@ returns-3 c =
 pub live-at-spec : {M : Type 1} → statement M
 live-at-spec =
     tie.close
-    (tie.spec live-areas-requires window-at-requires image-at-requires l2-index-requires returns returns-2 returns-3)
+    (tie.spec window-at-requires image-at-requires l2-index-requires returns returns-2 returns-3)

@@ -1,20 +1,19 @@
 -- `other_words` meets its contract: the first row is that of the words from j on.
-use Prim.Native.Nat.{_+_, _-_}
+use Prim.Native.Nat.{_-_}
 use mathlib.Core.Logic.{⊎-elim}
 use mathlib.Core.Path.{_≡_, sym, ap, _∙_}
 use borrow.Author.Needs.{needs}
 use borrow.Author.Tests.{eq-eqb, ne-eqb, not-true, not-false}
 use denote.Ref.{now}
 use Rattle.layout.specs.Size.{entries}
-use Rattle.refusal.specs.Table.{first, each}
-use Rattle.verify_rows.proofs.Range.{rest, rest-at, rest-end}
-use Rattle.verify_rows.specs.Verifying.{otherRow, otherRows}
-use Rattle.verify_tables.proofs.Zeros.{zeros}
+use Rattle.refusal.specs.Table.{first}
+use Rattle.verify_rows.proofs.Range.{rest-at, rest-end}
+use Rattle.verify_rows.specs.Verifying.{otherRow, otherRows, otherRowsFrom}
 use Rattle.verify_tables.proofs.other_words.Statement.{statement}
 use Rattle.verify_tables.proofs.other_words.Tie as tie
 
 abbrev Inv-loop : tie.InvT-loop
-Inv-loop arena l table j₀ j = first (otherRows arena l table) ≡ first (each (otherRow arena l table) (rest entries j))
+Inv-loop arena l table j₀ j = first (otherRows arena l table) ≡ first (otherRowsFrom arena l table j)
 
 abbrev μ-loop : tie.MeasureT-loop
 μ-loop arena l table j₀ j = entries - j
@@ -23,9 +22,7 @@ past-zeros-requires : tie.Need-past-zeros-requires Inv-loop μ-loop
 past-zeros-requires c κs = search needs
 
 loop-holds : tie.Need-loop-holds Inv-loop μ-loop
-loop-holds c =
-    let a = c .before .before .args in
-    ap first (zeros (now (a .arena)) (a .l) (a .table) 0 (c .past-zeros .result) (c .past-zeros .ensures))
+loop-holds c = ap first (c .past-zeros .ensures .2 (c .before .before .args .l))
 
 cast-table-word : tie.Need-cast-table-word Inv-loop μ-loop
 cast-table-word c = search needs
@@ -72,7 +69,7 @@ loop-again c =
     let a = h .before .before .before .args in
     let row = otherRow (now (a .arena)) (a .l) (a .table) in
     let here = rest-at row entries (h .loop .j) (w .before .loop-test .taken) in
-    let skipped = zeros (now (a .arena)) (a .l) (a .table) (h .loop .j + 1) (c .past-zeros2 .result) (c .past-zeros2 .ensures) in
+    let skipped = c .past-zeros2 .ensures .2 (a .l) in
     ⊎-elim
     (λ t.
     rw (

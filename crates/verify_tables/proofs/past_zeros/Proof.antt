@@ -1,18 +1,19 @@
--- `past_zeros` meets its contract: the words from j to k are 0.
+-- `past_zeros` meets its contract: from j to k no row is passed over.
 use Prim.Native.Nat.{ℕ, _+_, _-_, _≤_, _<_}
-use mathlib.Core.Path.{_≡_}
+use mathlib.Core.Path.{_≡_, refl, _∙_}
 use native.Mathlib.Omega.{arith}
 use lib.ListN.{getD}
 use borrow.Author.Needs.{needs}
 use denote.Ref.{now}
 use Rattle.fields.proofs.Below.{below-next}
 use Rattle.layout.specs.Size.{entries}
-use Rattle.verify_rows.specs.Verifying.{word}
+use Rattle.verify_rows.specs.Verifying.{word, OnlySooner}
+use Rattle.verify_tables.proofs.Zeros.{zeros}
 use Rattle.verify_tables.proofs.past_zeros.Statement.{statement}
 use Rattle.verify_tables.proofs.past_zeros.Tie as tie
 
 abbrev Inv-loop : tie.InvT-loop
-Inv-loop arena table j from k₀ k = (j ≤ k) × (k ≤ entries) × ((i : ℕ) → i < k → j ≤ i → word arena table i ≡ 0)
+Inv-loop arena table j from k₀ k = OnlySooner arena table j k
 
 abbrev μ-loop : tie.MeasureT-loop
 μ-loop arena table j from k₀ k = entries - k
@@ -24,10 +25,10 @@ add-if1 : tie.Need-add-if1 Inv-loop μ-loop
 add-if1 c = search needs
 
 returns : tie.Need-returns Inv-loop μ-loop
-returns c = (omega arith, omega arith, λ i lt le. omega (arith, lt, le))
+returns c = (omega arith, omega arith, λ l. refl)
 
 loop-holds : tie.Need-loop-holds Inv-loop μ-loop
-loop-holds c = (omega arith, omega arith, λ i lt le. omega (arith, lt, le))
+loop-holds c = (omega arith, omega arith, λ l. refl)
 
 add-loop : tie.Need-add-loop Inv-loop μ-loop
 add-loop c = search needs
@@ -107,12 +108,15 @@ loop-again c =
     let from = e .first-word .result in
     let at : (i : ℕ) → getD (now (a .arena)) (from + i) 0 ≡ 0 → word (now (a .arena)) (a .table) i ≡ 0 =
     λ i z. rw (← e .first-word .ensures) z in
-    let P : ℕ → Type 0 = λ i. a .j ≤ i → word (now (a .arena)) (a .table) i ≡ 0 in
-    let one = below-next P k (h .loop .inv .2) (λ le. at k (first .if2 .left)) in
+    let P : ℕ → Type 0 = λ i. k ≤ i → word (now (a .arena)) (a .table) i ≡ 0 in
+    let one = below-next P k (λ i lt le. omega (arith, lt, le)) (λ le. at k (first .if2 .left)) in
     let two = below-next P (k + 1) one (λ le. at (k + 1) (second .if3 .left)) in
     let three = below-next P (k + 2) (λ i lt. two i (omega (arith, lt))) (λ le. at (k + 2) (third .if4 .left)) in
-    let four = below-next P (k + 3) (λ i lt. three i (omega (arith, lt))) (λ le. at (k + 3) (c .if5 .left)) in
-    (omega arith, omega arith, λ i lt. four i (omega (arith, lt)))
+    let four = below-next P (k + 3) (λ i lt. three i (omega (arith, lt))) (λ le. at (k + 3) (c .if5 .left)) in (
+      omega arith,
+      omega arith,
+      λ l. h .loop .inv .2 l ∙ zeros (now (a .arena)) l (a .table) k (k + 4) (omega arith, omega arith, λ i lt. four i (omega (arith, lt))),
+    )
 
 returns-6 : tie.Need-returns-6 Inv-loop μ-loop
 returns-6 c = c .before .loop .inv

@@ -1,0 +1,147 @@
+-- `live-slots-gone`: the slots that were gathered are those that the layout gives, of the areas that are present.
+use Prim.Native.Nat.{ℕ, suc, _+_, _≤_}
+use mathlib.Core.Bool.{Bool, true, false, not, _&&_, _||_, or-false}
+use mathlib.Core.List.{List, [], _∷_, _++_, map, foldl, flatMap, append-nil}
+use mathlib.Core.Path.{_≡_, refl, sym, ap, ap₂, fun-ext, subst, _∙_}
+use native.Mathlib.Omega.{arith}
+use lib.Dec.{eqb, ltb}
+use lib.ListN.{length, length-set}
+use lib.Seq.{take-suc-set, append-snoc}
+use Rattle.areas.specs.Area.{area, dataArea, superArea, deviceArea, liveAreasOf, areaSlot, areaHas}
+use Rattle.areas.specs.declared.Area.{Area}
+use Rattle.fields.specs.Named.{pick}
+use Rattle.layout.specs.Window.{imageWindow, l2Slot}
+use Rattle.layout.specs.declared.GuestImage.the-variants.{At, Absent}
+use Rattle.layout.specs.declared.GuestImage.{GuestImage}
+use Rattle.layout.specs.declared.Layout.{Layout}
+use Rattle.refusal.specs.Table.{Row, given, each, allRows}
+use Rattle.verify_rows.specs.Verifying.{word, indices, windowAt, liveAt, liveRow, otherRow, otherRows, l1Rows, imageRows, dataRows, encodingRows, verifyRows}
+use Rattle.verify_rows.specs.Word.{row18, row19, spurious}
+use Rattle.verify_theorems.specs.LiveSlots.{Region, imageRegion, regions, Slots, noSlots, gather, held, liveSlots, listed, deadRow, deadExcept, regionRow, l1RowsBefore, imageRowsBefore, dataRowsBefore, verifyRowsBefore, LiveSlotsGone}
+
+abbrev slots : List Region → List ℕ
+slots rs = map (λ r. r .slot) rs
+
+-- no place is past the end: the array holds the slots in the order in which they came
+gathered :
+    (rs : List Region) (s : Slots) →
+    s .count + length rs ≤ length (s .places) → held (foldl gather s rs) ≡ held s ++ slots rs
+gathered [] s h = sym (append-nil (held s))
+gathered (r ∷ rs) s h =
+    let room : suc (s .count) + length rs ≤ length (gather s r .places) =
+    rw (length-set (s .places) (s .count) (r .slot)) (omega (arith, h)) in
+    gathered rs (gather s r) room
+    ∙ ap (λ (front : List ℕ). front ++ slots rs) (take-suc-set (s .places) (s .count) (r .slot) (omega (arith, h)))
+    ∙ append-snoc (held s) (r .slot) (slots rs)
+
+-- the region of an area, if it is present
+abbrev regionOf : Area → List Region
+regionOf a = pick (a .present) (record { slot = areaSlot a; table = a .table } ∷ []) []
+
+of-image : (image : GuestImage) (table : ℕ) → imageRegion image table ≡ regionOf (area (imageWindow image) table)
+of-image (At pa) table = refl
+of-image Absent table = refl
+
+in-order : (l : Layout) → regions l ≡ flatMap regionOf (liveAreasOf l)
+unfolding flatMap
+in-order l =
+    ap₂ (λ image device. regionOf (dataArea l) ++ (regionOf (superArea l) ++ (image ++ device)))
+    (of-image (l .«guest_image_pa») (l .«l2_code_pa»)) (sym (append-nil (regionOf (deviceArea l))))
+
+-- laws of any areas
+
+no-more : (xs : List Area) → length (flatMap regionOf xs) ≤ length xs
+unfolding flatMap
+no-more [] = omega arith
+no-more (a ∷ xs) = go (a .present) (no-more xs)
+  where
+    go : (b : Bool) → length (flatMap regionOf xs) ≤ length xs → length (pick b (record { slot = areaSlot a; table = a .table } ∷ []) [] ++ flatMap regionOf xs) ≤ suc (length xs)
+    go true h = omega (arith, h)
+    go false h = omega (arith, h)
+
+same-slots : (xs : List Area) (j : ℕ) → listed (slots (flatMap regionOf xs)) j ≡ windowAt xs j
+unfolding flatMap
+same-slots [] j = refl
+same-slots (a ∷ xs) j = go (a .present) (same-slots xs j)
+  where
+    go :
+        (b : Bool) → listed (slots (flatMap regionOf xs)) j ≡ windowAt xs j →
+        listed (slots (pick b (record { slot = areaSlot a; table = a .table } ∷ []) [] ++ flatMap regionOf xs)) j
+        ≡ ((b && eqb (areaSlot a) j) || windowAt xs j)
+    go true later = rw later
+    go false later = later
+
+same-rows : (arena : List ℕ) (xs : List Area) → each (regionRow arena) (flatMap regionOf xs) ≡ each (liveRow arena) xs
+unfolding flatMap liveRow
+same-rows arena [] = refl
+same-rows arena (a ∷ xs) = go (a .present) (same-rows arena xs)
+  where
+    go :
+        (b : Bool) → each (regionRow arena) (flatMap regionOf xs) ≡ each (liveRow arena) xs →
+        each (regionRow arena) (pick b (record { slot = areaSlot a; table = a .table } ∷ []) [] ++ flatMap regionOf xs)
+        ≡ given b (row18 1 (areaSlot a) (word arena 1 (areaSlot a)) (a .table)) ++ each (liveRow arena) xs
+    go true later = rw later
+    go false later = later
+
+-- the array has a place for each
+room : (l : Layout) → noSlots .count + length (regions l) ≤ length (noSlots .places)
+room l =
+    let areas = no-more (liveAreasOf l) in
+    subst (λ (rs : List Region). noSlots .count + length rs ≤ length (noSlots .places)) (sym (in-order l)) (omega (arith, areas))
+
+-- the slots that were gathered
+live-slots : (l : Layout) (j : ℕ) → listed (liveSlots l) j ≡ windowAt (liveAreasOf l) j
+live-slots l j =
+    ap (λ (live : List ℕ). listed live j) (gathered (regions l) noSlots (room l) ∙ ap slots (in-order l))
+    ∙ same-slots (liveAreasOf l) j
+
+-- a word is looked up in the list that has the live words of its table
+others :
+    (arena : List ℕ) (l : Layout) (t : ℕ) (live : List ℕ) →
+    ((j : ℕ) → listed live j ≡ liveAt l t j) → deadExcept arena t live ≡ otherRows arena l t
+unfolding otherRow
+others arena l t live same =
+    ap (λ row. each row indices)
+    (fun-ext (λ j. let d = word arena t j in ap (λ b. given (not (eqb d 0) && not b) (spurious t j d ∷ [])) (same j)))
+
+-- table by table
+
+table-1 : (arena : List ℕ) (l : Layout) → l1RowsBefore arena l ≡ l1Rows arena l
+unfolding l1Rows flatMap
+table-1 arena l =
+    ap₂ (λ live other. live ++ other) (ap (each (regionRow arena)) (in-order l) ∙ same-rows arena (liveAreasOf l))
+    (others arena l 1 (liveSlots l) (live-slots l) ∙ sym (append-nil (otherRows arena l 1)))
+
+table-2 : (arena : List ℕ) (l : Layout) → imageRowsBefore arena (l .«guest_image_pa») ≡ imageRows arena l
+unfolding imageRows flatMap
+table-2 arena l = go (l .«guest_image_pa») refl
+  where
+    at : GuestImage → ℕ → Bool
+    at image i = imageWindow image .present && eqb (l2Slot (imageWindow image .ipa)) i
+
+    rows :
+        (live : List ℕ) → ((i : ℕ) → listed live i ≡ at (l .«guest_image_pa») i) →
+        deadExcept arena 2 live ≡ otherRows arena l 2 ++ []
+    rows live same = others arena l 2 live same ∙ sym (append-nil (otherRows arena l 2))
+
+    go :
+        (image : GuestImage) → l .«guest_image_pa» ≡ image →
+        imageRowsBefore arena image
+        ≡ given (imageWindow image .present) (row19 (word arena 2 (l2Slot (imageWindow image .ipa))) (imageWindow image .pa))
+        ++ (otherRows arena l 2 ++ [])
+    go (At pa) e =
+        ap (λ (other : List Row). row19 (word arena 2 (l2Slot pa)) pa ++ other)
+        (rows (l2Slot pa ∷ []) (λ i. or-false (eqb (l2Slot pa) i) ∙ sym (ap (λ (g : GuestImage). at g i) e)))
+    go Absent e = rows [] (λ i. sym (ap (λ (g : GuestImage). at g i) e))
+
+table-3 : (arena : List ℕ) (l : Layout) → dataRowsBefore arena (l2Slot (l .«data_ipa_base»)) (l .«l3_data_pa») ≡ dataRows arena l
+unfolding dataRows flatMap
+table-3 arena l =
+    let j = l2Slot (l .«data_ipa_base») in
+    ap (λ other. row18 3 j (word arena 3 j) (l .«l3_data_pa») ++ other)
+    (others arena l 3 (j ∷ []) (λ i. or-false (eqb j i)) ∙ sym (append-nil (otherRows arena l 3)))
+
+pub live-slots-gone : LiveSlotsGone
+unfolding verifyRows encodingRows flatMap
+live-slots-gone arena base sup l =
+    rw (append-nil (encodingRows arena base sup l), ← table-1 arena l, ← table-2 arena l, ← table-3 arena l)
