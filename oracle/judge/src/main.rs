@@ -116,6 +116,8 @@ mod verify_inputs;
 mod verify_leaf_faults;
 mod verify_order_faults;
 mod verify_row_faults;
+mod verify_slot_faults;
+mod verify_slots;
 mod verify_table_faults;
 mod verify_value_faults;
 mod verify_word_faults;

@@ -15,7 +15,8 @@ use crate::port_layouts;
 use crate::verify_inputs::{
     damaged, encoded, every_place, example_arenas, filled, found, unbacked, unbacked_examples,
 };
-use crate::{verify_leaf_faults, verify_order_faults, verify_row_faults};
+use crate::verify_slots::{any_slot, each_slot, DEVICE_SLOT, IMAGE_SLOT};
+use crate::{verify_leaf_faults, verify_order_faults, verify_row_faults, verify_slot_faults};
 use crate::{verify_table_faults, verify_value_faults, verify_word_faults};
 
 /// A scene in the arena that may hold what it is encoded to.
@@ -44,6 +45,11 @@ pub const LAYER: Layer<Arena> = Layer {
         of_table::<5>("verify, l2_sup damaged", TABLE_5),
         of_table::<6>("verify, l2_dev damaged", TABLE_6),
         Function {
+            boundary: || Box::new(each_slot()),
+            sweep: |round| Box::new(any_slot(round)),
+            ..function("verify, live slots", SLOTS)
+        },
+        Function {
             boundary: || Box::new(unbacked_examples()),
             sweep: |round| Box::new(unbacked(round)),
             ..function("verify, supers past the frames", UNBACKED)
@@ -52,6 +58,7 @@ pub const LAYER: Layer<Arena> = Layer {
     faults: &[
         verify_row_faults::FAULTS,
         verify_table_faults::FAULTS,
+        verify_slot_faults::FAULTS,
         verify_order_faults::FAULTS,
         verify_word_faults::FAULTS,
         verify_leaf_faults::FAULTS,
@@ -130,6 +137,19 @@ const TABLE_6: &[Answer] = &[
     ("row 22", row::<22>),
 ];
 
+const SLOTS: &[Answer] = &[
+    ("accepted", row::<0>),
+    ("row 18 of l1, another table found", entry::<1, 1>),
+    ("row 18 of l1, nothing found", entry::<1, 0>),
+    ("row 21 of l1's first word", spare::<0>),
+    ("row 21 at the slot of an absent image", spare::<IMAGE_SLOT>),
+    (
+        "row 21 at the slot of an absent device",
+        spare::<DEVICE_SLOT>,
+    ),
+    ("row 21 of l1", spurious::<1>),
+];
+
 const UNBACKED: &[Answer] = &[
     ("accepted", row::<0>),
     ("row 20, another super found", leaf::<1>),
@@ -150,6 +170,11 @@ fn leaf<const FOUND: u64>(answer: &[u64]) -> bool {
 
 fn spurious<const TABLE: u64>(answer: &[u64]) -> bool {
     answer[..2] == [21, TABLE]
+}
+
+/// At this place of l1.
+fn spare<const PLACE: u64>(answer: &[u64]) -> bool {
+    answer[..3] == [21, 1, PLACE]
 }
 
 impl Input for Arena {

@@ -65,7 +65,7 @@ fn put(x: &mut Arena, number: usize, index: usize, word: u64) {
 }
 
 /// What the scene is encoded to from zeros.
-fn over_zeros(mut scene: Scene) -> Arena {
+pub fn over_zeros(mut scene: Scene) -> Arena {
     scene.arena.fill(0);
     over(scene)
 }
