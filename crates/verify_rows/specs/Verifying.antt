@@ -1,8 +1,7 @@
 -- Verification, by document 01: rows 1 to 12, then what is wrong in the words of the arena, in the order in which they are read.
-use Prim.Native.Nat.{ℕ, zero, suc, _+_, _-_, _*_, _/_, _≤_}
+use Prim.Native.Nat.{ℕ, zero, suc, _+_, _*_, _/_}
 use mathlib.Core.Bool.{Bool, true, false, not, _&&_, _||_}
 use mathlib.Core.List.{List, [], _∷_}
-use mathlib.Core.Path.{_≡_}
 use lib.Dec.{eqb, leb, ltb}
 use lib.ListN.{getD}
 use Rattle.areas.specs.Area.{liveAreasOf, areaSlot, areaHas}
@@ -59,14 +58,6 @@ otherRow arena l t j =
 
 abbrev pub otherRows : List ℕ → Layout → ℕ → List Row
 otherRows arena l t = each (otherRow arena l t) indices
-
--- those from index j on
-abbrev pub otherRowsFrom : List ℕ → Layout → ℕ → ℕ → List Row
-otherRowsFrom arena l t j = each (otherRow arena l t) (range j (entries - j))
-
--- to go on at r in place of j is only sooner: whatever the layout, the rows are the same, so that nothing but time depends on it
-abbrev pub OnlySooner : List ℕ → ℕ → ℕ → ℕ → Type 0
-OnlySooner arena t j r = (j ≤ r) × (r ≤ entries) × ((l : Layout) → otherRowsFrom arena l t j ≡ otherRowsFrom arena l t r)
 
 -- table 1: 18, then 21
 unfoldable pub l1Rows : List ℕ → Layout → List Row

@@ -5,9 +5,9 @@ use mathlib.Core.Path.{_≡_}
 use borrow.Author.Tests.{eq-eqb}
 use Rattle.layout.specs.Size.{entries}
 use Rattle.layout.specs.declared.Layout.{Layout}
-use Rattle.refusal.specs.Table.{each}
-use Rattle.verify_rows.proofs.Range.{rest, passed}
+use Rattle.verify_rows.proofs.Range.{passed}
 use Rattle.verify_rows.specs.Verifying.{word, otherRow}
+use Rattle.verify_tables.specs.Sooner.{otherRowsFrom}
 
 module _ (arena : List ℕ) (l : Layout) (t : ℕ) where
   zero-row : (k : ℕ) → word arena t k ≡ 0 → otherRow arena l t k ≡ []
@@ -17,5 +17,5 @@ module _ (arena : List ℕ) (l : Layout) (t : ℕ) where
   pub zeros :
       (j r : ℕ) →
       (j ≤ r) × (r ≤ entries) × ((k : ℕ) → k < r → j ≤ k → word arena t k ≡ 0) →
-      each (otherRow arena l t) (rest entries j) ≡ each (otherRow arena l t) (rest entries r)
+      otherRowsFrom arena l t j ≡ otherRowsFrom arena l t r
   zeros j r w = passed (otherRow arena l t) entries j r (w .0) (w .1) (λ k lt le. zero-row k (w .2 k lt le))

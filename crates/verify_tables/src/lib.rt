@@ -10,8 +10,9 @@ ghost use Rattle.layout.specs.Size.{entries};
 ghost use Rattle.layout.specs.Window.{l2Slot};
 ghost use Rattle.refusal.specs.Outcome.{outcomeOf};
 ghost use Rattle.refusal.specs.Table.{first, given, each};
-ghost use Rattle.verify_rows.specs.Verifying.{word, liveRow, windowAt, imageAt, liveAt, otherRows, OnlySooner, l1Rows, imageRows, dataRows};
+ghost use Rattle.verify_rows.specs.Verifying.{word, liveRow, windowAt, imageAt, liveAt, otherRows, l1Rows, imageRows, dataRows};
 ghost use Rattle.verify_rows.specs.Word.{row19};
+ghost use Rattle.verify_tables.specs.Sooner.{OnlySooner};
 
 // Table 1.
 pub fn verify_l1(arena: &[u64], l: Layout) -> Verdict
@@ -107,7 +108,7 @@ fn other_words(arena: &[u64], l: Layout, table: u32) -> Verdict
     Verdict::Accepted
 }
 
-// Where to go on from j: past words that are 0, four a turn.
+// Where to go on from j: past words that are 0, four a turn. Nothing but time depends on it.
 fn past_zeros(arena: &[u64], table: u32, j: usize) -> usize
     requires { ⌜ j ≤ entries ⌝ }
     ensures { λ r. ⌜ OnlySooner (now (arena .entry)) table j r ⌝ }

@@ -4,20 +4,22 @@ use mathlib.Core.Bool.{Bool, true, false, not, _&&_, _||_, or-false}
 use mathlib.Core.List.{List, [], _∷_, _++_, map, foldl, flatMap, append-nil}
 use mathlib.Core.Path.{_≡_, refl, sym, ap, ap₂, fun-ext, subst, _∙_}
 use native.Mathlib.Omega.{arith}
-use lib.Dec.{eqb, ltb}
+use lib.Dec.{eqb}
 use lib.ListN.{length, length-set}
 use lib.Seq.{take-suc-set, append-snoc}
-use Rattle.areas.specs.Area.{area, dataArea, superArea, deviceArea, liveAreasOf, areaSlot, areaHas}
+use Rattle.areas.specs.Area.{area, dataArea, superArea, deviceArea, liveAreasOf, areaSlot}
 use Rattle.areas.specs.declared.Area.{Area}
 use Rattle.fields.specs.Named.{pick}
 use Rattle.layout.specs.Window.{imageWindow, l2Slot}
 use Rattle.layout.specs.declared.GuestImage.the-variants.{At, Absent}
 use Rattle.layout.specs.declared.GuestImage.{GuestImage}
 use Rattle.layout.specs.declared.Layout.{Layout}
-use Rattle.refusal.specs.Table.{Row, given, each, allRows}
-use Rattle.verify_rows.specs.Verifying.{word, indices, windowAt, liveAt, liveRow, otherRow, otherRows, l1Rows, imageRows, dataRows, encodingRows, verifyRows}
+use Rattle.refusal.specs.Table.{Row, given, each}
+use Rattle.verify_rows.specs.Verifying.{word, indices, windowAt, liveAt, liveRow, otherRow}
+use Rattle.verify_rows.specs.Verifying.{otherRows, l1Rows, imageRows, dataRows, encodingRows, verifyRows}
 use Rattle.verify_rows.specs.Word.{row18, row19, spurious}
-use Rattle.verify_theorems.specs.LiveSlots.{Region, imageRegion, regions, Slots, noSlots, gather, held, liveSlots, listed, deadRow, deadExcept, regionRow, l1RowsBefore, imageRowsBefore, dataRowsBefore, verifyRowsBefore, LiveSlotsGone}
+use Rattle.verify_theorems.specs.LiveSlots.{Region, imageRegion, regions, Slots, noSlots, gather, held, liveSlots, listed}
+use Rattle.verify_theorems.specs.LiveSlots.{deadExcept, regionRow, l1RowsBefore, imageRowsBefore, dataRowsBefore, LiveSlotsGone}
 
 abbrev slots : List Region → List ℕ
 slots rs = map (λ r. r .slot) rs
@@ -35,8 +37,11 @@ gathered (r ∷ rs) s h =
     ∙ append-snoc (held s) (r .slot) (slots rs)
 
 -- the region of an area, if it is present
+abbrev regionIf : Bool → Area → List Region
+regionIf present a = pick present (record { slot = areaSlot a; table = a .table } ∷ []) []
+
 abbrev regionOf : Area → List Region
-regionOf a = pick (a .present) (record { slot = areaSlot a; table = a .table } ∷ []) []
+regionOf a = regionIf (a .present) a
 
 of-image : (image : GuestImage) (table : ℕ) → imageRegion image table ≡ regionOf (area (imageWindow image) table)
 of-image (At pa) table = refl
@@ -55,7 +60,7 @@ unfolding flatMap
 no-more [] = omega arith
 no-more (a ∷ xs) = go (a .present) (no-more xs)
   where
-    go : (b : Bool) → length (flatMap regionOf xs) ≤ length xs → length (pick b (record { slot = areaSlot a; table = a .table } ∷ []) [] ++ flatMap regionOf xs) ≤ suc (length xs)
+    go : (b : Bool) → length (flatMap regionOf xs) ≤ length xs → length (regionIf b a ++ flatMap regionOf xs) ≤ suc (length xs)
     go true h = omega (arith, h)
     go false h = omega (arith, h)
 
@@ -66,7 +71,7 @@ same-slots (a ∷ xs) j = go (a .present) (same-slots xs j)
   where
     go :
         (b : Bool) → listed (slots (flatMap regionOf xs)) j ≡ windowAt xs j →
-        listed (slots (pick b (record { slot = areaSlot a; table = a .table } ∷ []) [] ++ flatMap regionOf xs)) j
+        listed (slots (regionIf b a ++ flatMap regionOf xs)) j
         ≡ ((b && eqb (areaSlot a) j) || windowAt xs j)
     go true later = rw later
     go false later = later
@@ -78,7 +83,7 @@ same-rows arena (a ∷ xs) = go (a .present) (same-rows arena xs)
   where
     go :
         (b : Bool) → each (regionRow arena) (flatMap regionOf xs) ≡ each (liveRow arena) xs →
-        each (regionRow arena) (pick b (record { slot = areaSlot a; table = a .table } ∷ []) [] ++ flatMap regionOf xs)
+        each (regionRow arena) (regionIf b a ++ flatMap regionOf xs)
         ≡ given b (row18 1 (areaSlot a) (word arena 1 (areaSlot a)) (a .table)) ++ each (liveRow arena) xs
     go true later = rw later
     go false later = later
@@ -95,7 +100,7 @@ live-slots l j =
     ap (λ (live : List ℕ). listed live j) (gathered (regions l) noSlots (room l) ∙ ap slots (in-order l))
     ∙ same-slots (liveAreasOf l) j
 
--- a word is looked up in the list that has the live words of its table
+-- the words that a list of a table's live indices leaves are the others
 others :
     (arena : List ℕ) (l : Layout) (t : ℕ) (live : List ℕ) →
     ((j : ℕ) → listed live j ≡ liveAt l t j) → deadExcept arena t live ≡ otherRows arena l t

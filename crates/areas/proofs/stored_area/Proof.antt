@@ -34,7 +34,8 @@ returns c =
 returns-2 : tie.Need-returns-2
 returns-2 c =
     let m = c .before .before in
-    rw (m .match .keys2) (c .of2 .ensures ∙ ap (λ (w : Window). area w (m .before .args .l .«l2_data_pa»)) (c .before .data-window .ensures))
+    let table = m .before .args .l .«l2_data_pa» in
+    rw (m .match .keys2) (c .of2 .ensures ∙ ap (λ (w : Window). area w table) (c .before .data-window .ensures))
 
 returns-3 : tie.Need-returns-3
 returns-3 c = rw (c .match .keys3)
@@ -42,7 +43,8 @@ returns-3 c = rw (c .match .keys3)
 returns-4 : tie.Need-returns-4
 returns-4 c =
     let m = c .before .before in
-    rw (m .match .keys4) (c .of3 .ensures ∙ ap (λ (w : Window). area w (m .before .args .l .«l2_dev_pa»)) (c .before .device-window .ensures))
+    let table = m .before .args .l .«l2_dev_pa» in
+    rw (m .match .keys4) (c .of3 .ensures ∙ ap (λ (w : Window). area w table) (c .before .device-window .ensures))
 
 returns-5 : tie.Need-returns-5
 returns-5 c =

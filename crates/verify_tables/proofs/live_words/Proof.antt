@@ -7,7 +7,6 @@ use denote.Ref.{now}
 use Rattle.areas.specs.Area.{noArea, liveAreasOf}
 use Rattle.areas.specs.declared.Area.{Area}
 use Rattle.refusal.proofs.Loop.{refuses, passes, ends, each-walk}
-use Rattle.refusal.specs.Outcome.{outcomeOf}
 use Rattle.refusal.specs.Table.{first, each}
 use Rattle.verify_rows.specs.Verifying.{liveRow}
 use Rattle.verify_tables.proofs.live_words.Statement.{statement}

@@ -8,7 +8,8 @@ use denote.Ref.{now}
 use Rattle.layout.specs.Size.{entries}
 use Rattle.refusal.specs.Table.{first}
 use Rattle.verify_rows.proofs.Range.{rest-at, rest-end}
-use Rattle.verify_rows.specs.Verifying.{otherRow, otherRows, otherRowsFrom}
+use Rattle.verify_rows.specs.Verifying.{otherRow, otherRows}
+use Rattle.verify_tables.specs.Sooner.{otherRowsFrom}
 use Rattle.verify_tables.proofs.other_words.Statement.{statement}
 use Rattle.verify_tables.proofs.other_words.Tie as tie
 

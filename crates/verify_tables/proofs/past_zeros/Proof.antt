@@ -1,5 +1,5 @@
 -- `past_zeros` meets its contract: from j to k no row is passed over.
-use Prim.Native.Nat.{ℕ, _+_, _-_, _≤_, _<_}
+use Prim.Native.Nat.{ℕ, _+_, _-_, _≤_}
 use mathlib.Core.Path.{_≡_, refl, _∙_}
 use native.Mathlib.Omega.{arith}
 use lib.ListN.{getD}
@@ -7,7 +7,8 @@ use borrow.Author.Needs.{needs}
 use denote.Ref.{now}
 use Rattle.fields.proofs.Below.{below-next}
 use Rattle.layout.specs.Size.{entries}
-use Rattle.verify_rows.specs.Verifying.{word, OnlySooner}
+use Rattle.verify_rows.specs.Verifying.{word}
+use Rattle.verify_tables.specs.Sooner.{OnlySooner}
 use Rattle.verify_tables.proofs.Zeros.{zeros}
 use Rattle.verify_tables.proofs.past_zeros.Statement.{statement}
 use Rattle.verify_tables.proofs.past_zeros.Tie as tie
