@@ -52,6 +52,12 @@ listed=$(subjects | cut -d ' ' -f 2- | tr ' ' '\n' | sort)
 [ "$(awk -f tools/believed.awk $statements | grep -o 'crates/.*' | sort)" = "$listed" ] ||
     { echo "docs/TRUST.md lists other files than the six statements rest on"; exit 1; }
 
+# The code of verification has no array (M-101): every bracket is a lent slice's or an index's.
+if grep -vE 'ghost use|⌜' crates/verify*/src/lib.rt | grep -P '(?<![\w&)])\[|areas::areas'; then
+    echo "verification has an array"
+    exit 1
+fi
+
 # A fault that is listed as missed is of a function that is there.
 grep -v '^#' sabotage/missed.txt | cut -f 1 | sort -u | while read -r function; do
     grep -qrE "fn ${function##*::}\b" "crates/${function%%::*}/src" || { echo "no $function, which sabotage/missed.txt names"; exit 1; }
