@@ -10,6 +10,7 @@ use lib.Seq.{take-suc-set, append-snoc}
 use Rattle.areas.specs.Area.{area, dataArea, superArea, deviceArea, liveAreasOf, areaSlot}
 use Rattle.areas.specs.declared.Area.{Area}
 use Rattle.fields.specs.Named.{pick}
+use Rattle.layout.specs.Layout.{layoutOf}
 use Rattle.layout.specs.Window.{imageWindow, l2Slot}
 use Rattle.layout.specs.declared.GuestImage.the-variants.{At, Absent}
 use Rattle.layout.specs.declared.GuestImage.{GuestImage}
@@ -18,21 +19,22 @@ use Rattle.refusal.specs.Table.{Row, given, each}
 use Rattle.verify_rows.specs.Verifying.{word, indices, windowAt, liveAt, liveRow, otherRow}
 use Rattle.verify_rows.specs.Verifying.{otherRows, l1Rows, imageRows, dataRows, encodingRows, verifyRows}
 use Rattle.verify_rows.specs.Word.{row18, row19, spurious}
+use Rattle.verify_theorems.specs.LiveSlots.{LiveSlotsGone, SlotsS}
 use Rattle.verify_theorems.specs.LiveSlots.{Region, imageRegion, regions, Slots, noSlots, gather, held, liveSlots, listed}
-use Rattle.verify_theorems.specs.LiveSlots.{deadExcept, regionRow, l1RowsBefore, imageRowsBefore, dataRowsBefore, LiveSlotsGone}
+use Rattle.verify_theorems.specs.LiveSlots.{deadExcept, regionRow, l1RowsBefore, imageRowsBefore, dataRowsBefore}
 
 abbrev slots : List Region → List ℕ
 slots rs = map (λ r. r .slot) rs
 
 -- no place is past the end: the array holds the slots in the order in which they came
-gathered :
+gathered-slots :
     (rs : List Region) (s : Slots) →
     s .count + length rs ≤ length (s .places) → held (foldl gather s rs) ≡ held s ++ slots rs
-gathered [] s h = sym (append-nil (held s))
-gathered (r ∷ rs) s h =
+gathered-slots [] s h = sym (append-nil (held s))
+gathered-slots (r ∷ rs) s h =
     let room : suc (s .count) + length rs ≤ length (gather s r .places) =
     rw (length-set (s .places) (s .count) (r .slot)) (omega (arith, h)) in
-    gathered rs (gather s r) room
+    gathered-slots rs (gather s r) room
     ∙ ap (λ (front : List ℕ). front ++ slots rs) (take-suc-set (s .places) (s .count) (r .slot) (omega (arith, h)))
     ∙ append-snoc (held s) (r .slot) (slots rs)
 
@@ -97,7 +99,7 @@ room l =
 -- the slots that were gathered
 live-slots : (l : Layout) (j : ℕ) → listed (liveSlots l) j ≡ windowAt (liveAreasOf l) j
 live-slots l j =
-    ap (λ (live : List ℕ). listed live j) (gathered (regions l) noSlots (room l) ∙ ap slots (in-order l))
+    ap (λ (live : List ℕ). listed live j) (gathered-slots (regions l) noSlots (room l) ∙ ap slots (in-order l))
     ∙ same-slots (liveAreasOf l) j
 
 -- the words that a list of a table's live indices leaves are the others
@@ -150,3 +152,7 @@ pub live-slots-gone : LiveSlotsGone
 unfolding verifyRows encodingRows flatMap
 live-slots-gone arena base sup l =
     rw (append-nil (encodingRows arena base sup l), ← table-1 arena l, ← table-2 arena l, ← table-3 arena l)
+
+pub slots-S : SlotsS
+unfolding layoutOf
+slots-S = record { three = refl; two = refl; slot-0 = refl }

@@ -7,11 +7,13 @@ use mathlib.Core.Path.{_≡_}
 use lib.Dec.{eqb, ltb}
 use lib.ListN.{set, take}
 use Rattle.fields.specs.Named.{pick}
+use Rattle.layout.specs.Layout.{layoutOf}
 use Rattle.layout.specs.Window.{deviceWindow, l1Slot, l2Slot}
 use Rattle.layout.specs.declared.GuestImage.the-variants.{At, Absent}
 use Rattle.layout.specs.declared.GuestImage.{GuestImage}
 use Rattle.layout.specs.declared.Layout.{Layout}
 use Rattle.refusal.specs.Table.{Row, given, each, allRows}
+use Rattle.rows.specs.Examples.{sceneS, line}
 use Rattle.rows.specs.Rows.{row1, mapRows, refusals}
 use Rattle.verify_rows.specs.Verifying.{word, indices, pageRows, superRows, deviceRows, verifyRows}
 use Rattle.verify_rows.specs.Word.{row18, row19, spurious}
@@ -54,8 +56,11 @@ gather s r = record { places = set (s .places) (s .count) (r .slot); count = suc
 abbrev pub held : Slots → List ℕ
 held s = take (s .count) (s .places)
 
+abbrev pub gathered : Layout → Slots
+gathered l = foldl gather noSlots (regions l)
+
 abbrev pub liveSlots : Layout → List ℕ
-liveSlots l = held (foldl gather noSlots (regions l))
+liveSlots l = held (gathered l)
 
 abbrev pub listed : List ℕ → ℕ → Bool
 listed [] j = false
@@ -102,3 +107,9 @@ verifyRowsBefore arena base sup l =
 abbrev pub LiveSlotsGone : Type 0
 LiveSlotsGone =
     (arena base sup : List ℕ) (l : Layout) → verifyRows arena base sup l ≡ verifyRowsBefore arena base sup l
+
+-- S gathers three, and without its device two. The places that are left hold 0, and slot 0 is not live
+pub record SlotsS : Type 0 where
+  pub three : gathered (layoutOf sceneS) ≡ record { places = 2 ∷ 3 ∷ 0 ∷ 0 ∷ []; count = 3 }
+  pub two : gathered (layoutOf (line 0xE 0 sceneS)) ≡ record { places = 2 ∷ 3 ∷ 0 ∷ 0 ∷ []; count = 2 }
+  pub slot-0 : listed (liveSlots (layoutOf (line 0xE 0 sceneS))) 0 ≡ false
