@@ -1,7 +1,7 @@
 #!/bin/sh
 # Holds what the pages say to the files: every path, edit, crate and name is there; the definitions that must be believed, the edits and the
-# described calls are as many; so much stack is taken; the board's register has its value; and S's annex page and its picture are as they are
-# shown. And make help lists every target that is no step of another.
+# described calls are as many; no array is written in verification; so much stack is taken; the board's register has its value; and S's annex
+# page and its picture are as they are shown. And make help lists every target that is no step of another.
 set -eu
 cd "$(dirname "$0")/.."
 # A note of docs/changes is of the project as its request left it, and is not held to what later ones make of it.
@@ -35,13 +35,13 @@ believed() {
     awk -f tools/believed.awk "$@" | tail -1
 }
 statements="crates/s2/specs/Answers.antt crates/demand_2/specs/Demand2.antt crates/demand_3/specs/Demand3.antt
-    crates/annex_walks/specs/Annex.antt crates/dump/specs/Dump.antt crates/annex_text/specs/Text.antt"
+    crates/annex_walks/specs/Annex.antt crates/verify_theorems/specs/LiveSlots.antt crates/dump/specs/Dump.antt crates/annex_text/specs/Text.antt"
 for statement in $statements; do
     says docs/TRUST.md "| [$statement](../$statement) | $(believed $statement) |"
 done
-says docs/TRUST.md "| all six | | $(believed $statements) |"
+says docs/TRUST.md "| all seven | | $(believed $statements) |"
 
-# Each subject's files have as many lines, and together they are the files that the six statements rest on.
+# Each subject's files have as many lines, and together they are the files that the seven statements rest on.
 subjects() {
     awk -F ' *[|] *' '$3 ~ /^`crates\/.*antt`$/ { gsub(/[`,]/, "", $3); print $4, $3 }' docs/TRUST.md
 }
@@ -50,11 +50,19 @@ subjects | while read -r lines files; do
 done
 listed=$(subjects | cut -d ' ' -f 2- | tr ' ' '\n' | sort)
 [ "$(awk -f tools/believed.awk $statements | grep -o 'crates/.*' | sort)" = "$listed" ] ||
-    { echo "docs/TRUST.md lists other files than the six statements rest on"; exit 1; }
+    { echo "docs/TRUST.md lists other files than the seven statements rest on"; exit 1; }
 
-# The code of verification has no array (M-101): every bracket is a lent slice's or an index's.
-if grep -vE 'ghost use|⌜' crates/verify*/src/lib.rt | grep -P '(?<![\w&)])\[|areas::areas'; then
+# No array is written in the code of verification (M-101): each bracket is of a lent slice or of an index into one, and of `areas` it asks
+# for one area at a time.
+verification() {
+    cat crates/verify*/src/*.rt | grep -vE '^ *//|ghost use|⌜'
+}
+if verification | sed -E 's/&\[(u64|u8)\]//g; s/\b(arena|base|sup)\[//g' | grep -F '['; then
     echo "verification has an array"
+    exit 1
+fi
+if verification | grep -F 'areas::' | grep -vE 'areas::(Area;|live_area\()'; then
+    echo "verification asks for more than one area"
     exit 1
 fi
 

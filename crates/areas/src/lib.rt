@@ -22,6 +22,7 @@ fn stored_area(l: Layout, i: usize) -> Area
             Area::of(image_pa.window(), l.l2_code_pa)
         }
         1 => Area::of(l.data_window(), l.l2_data_pa),
+        // Its window is counted by row 8 alone.
         2 => Area {
             present: true,
             ipa: l.sup_ipa_base,
@@ -36,6 +37,7 @@ fn stored_area(l: Layout, i: usize) -> Area
     }
 }
 
+// All of them.
 pub fn areas(l: Layout) -> [Area; Layout::WINDOWS]
     ensures { λ r. ⌜ r ≡ areasOf l ⌝ }
 {

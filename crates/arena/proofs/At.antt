@@ -6,7 +6,7 @@ use mathlib.Core.Path.{_≡_, refl, sym, ap, _∙_}
 use native.Mathlib.Omega.{arith}
 use lib.Dec.{eqb, leb, ltb}
 use borrow.Author.Tests.{eqb-true, eqb-false, leb-true, ltb-true, ltb-false, ne-eqb}
-use Rattle.areas.specs.Area.{area, areasOf, areaSlot, areaHas}
+use Rattle.areas.specs.Area.{areasOf, areaSlot, areaHas}
 use Rattle.areas.specs.declared.Area.{Area}
 use Rattle.arena.specs.Encoded.{Run, one, presentRun, tableOf, indexOf, wordAt, overwrite, stored, cleared, encoded, target}
 use Rattle.arena.specs.Encoded.{pageRun, superRun, deviceRun, imageRun, pageTableRun, areaRun, upperRuns, leafRuns, runsOf}
@@ -14,7 +14,7 @@ use Rattle.arena.specs.Word.{tableTo, imageTo}
 use Rattle.arena.proofs.Runs.{other, before, past, inside, empty}
 use Rattle.fields.specs.Named.{pick}
 use Rattle.layout.specs.Size.{tableCount}
-use Rattle.layout.specs.Window.{window, imageWindow, deviceWindow, l2Slot}
+use Rattle.layout.specs.Window.{imageWindow, deviceWindow, l2Slot}
 use Rattle.layout.specs.declared.Layout.{Layout}
 use Rattle.layout.specs.declared.Window.{Window}
 use Rattle.refusal.proofs.All.{all-map}
@@ -98,9 +98,6 @@ single-if :
     overwrite old (wordAt (presentRun there (one t s w)) i) ≡ pick (there && eqb s (indexOf i)) w old
 single-if true t s w i old e some = single t s w i old e some
 single-if false t s w i old e some = ap (overwrite old) (empty t s (λ p. w) i)
-
-abbrev pub noArea : Area
-noArea = area (window 0 false 0 0 0) 0
 
 -- level 1 words of areas, in order: the last at an index stands
 abbrev pub lastAt : List Area → ℕ → ℕ → ℕ

@@ -8,9 +8,9 @@ use native.Mathlib.Omega.{arith}
 use lib.Dec.{eqb}
 use lib.ListN.{length, getD, drop, drop-of-length-le}
 use lib.Seq.{drop-cons}
-use Rattle.areas.specs.Area.{areasOf, areaHas}
+use Rattle.areas.specs.Area.{noArea, areasOf, areaHas}
 use Rattle.areas.specs.declared.Area.{Area}
-use Rattle.arena.proofs.At.{noArea, imageAt, dataAt, named-next, at-areas, at-2, at-3, run-4, run-5, run-6}
+use Rattle.arena.proofs.At.{imageAt, dataAt, named-next, at-areas, at-2, at-3, run-4, run-5, run-6}
 use Rattle.arena.proofs.Runs.{run-inside}
 use Rattle.arena.specs.Encoded.{indexOf, wordAt, stored, pageAt, pageRun, superRun, deviceRun, areaRun, target}
 use Rattle.arena.specs.Word.{tableTo}

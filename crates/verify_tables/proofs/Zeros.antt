@@ -16,6 +16,5 @@ module _ (arena : List ℕ) (l : Layout) (t : ℕ) where
 
   pub zeros :
       (j r : ℕ) →
-      (j ≤ r) × (r ≤ entries) × ((k : ℕ) → k < r → j ≤ k → word arena t k ≡ 0) →
-      otherRowsFrom arena l t j ≡ otherRowsFrom arena l t r
-  zeros j r w = passed (otherRow arena l t) entries j r (w .0) (w .1) (λ k lt le. zero-row k (w .2 k lt le))
+      j ≤ r → r ≤ entries → ((k : ℕ) → k < r → j ≤ k → word arena t k ≡ 0) → otherRowsFrom arena l t j ≡ otherRowsFrom arena l t r
+  zeros j r low high none = passed (otherRow arena l t) entries j r low high (λ k lt le. zero-row k (none k lt le))

@@ -18,7 +18,7 @@ use Rattle.verify_theorems.proofs.LetsBy.{encoded-verifies}
 use Rattle.verify_theorems.proofs.Told.{halves}
 use Rattle.verify_theorems.specs.Examples.{VerifyExamples, Wrong, wrong, unnamed, spare, leafless, faultOf, wrongs, imageHighS}
 use Rattle.verify_theorems.specs.Examples.{apartS}
-use Rattle.verify_theorems.specs.Examples.{verdict, ToldInOrder, Sound, SoundScenes, BeforeWords}
+use Rattle.verify_theorems.specs.Examples.{verdict, ToldInOrder, Sound, SoundScenes, BeforeWords, SlotsS}
 use Rattle.verify_theorems.specs.Verified.{Guarding, Verifies}
 use Rattle.verify_rows.specs.Verifying.{liveRow, l1Rows, encodingRows, verifyRows}
 use Rattle.verify_rows.specs.Word.{row18, row19, leafRow, blockRow}
@@ -112,3 +112,7 @@ pub before-words : BeforeWords
 unfolding layoutOf first flatMap eachFrom pairs row1 row2 row3 row4 row5 row6 row7 row8 row9 row10 lengthRows mapRows pairRows windowRows
     refusalsAt liveRow l1Rows encodingRows verifyRows row18
 before-words = record { zeros = refl; layout = refl; maps = refl; arena = refl }
+
+pub slots-S : SlotsS
+unfolding layoutOf
+slots-S = record { three = refl; two = refl; slot-0 = refl }

@@ -1,4 +1,4 @@
--- `live-slots-gone`: the slots that were gathered are those that the layout gives, of the areas that are present.
+-- `live-slots-gone`: the slots that were gathered are those of the areas that are present.
 use Prim.Native.Nat.{ℕ, suc, _+_, _≤_}
 use mathlib.Core.Bool.{Bool, true, false, not, _&&_, _||_, or-false}
 use mathlib.Core.List.{List, [], _∷_, _++_, map, foldl, flatMap, append-nil}
@@ -10,7 +10,6 @@ use lib.Seq.{take-suc-set, append-snoc}
 use Rattle.areas.specs.Area.{area, dataArea, superArea, deviceArea, liveAreasOf, areaSlot}
 use Rattle.areas.specs.declared.Area.{Area}
 use Rattle.fields.specs.Named.{pick}
-use Rattle.layout.specs.Layout.{layoutOf}
 use Rattle.layout.specs.Window.{imageWindow, l2Slot}
 use Rattle.layout.specs.declared.GuestImage.the-variants.{At, Absent}
 use Rattle.layout.specs.declared.GuestImage.{GuestImage}
@@ -19,87 +18,86 @@ use Rattle.refusal.specs.Table.{Row, given, each}
 use Rattle.verify_rows.specs.Verifying.{word, indices, windowAt, liveAt, liveRow, otherRow}
 use Rattle.verify_rows.specs.Verifying.{otherRows, l1Rows, imageRows, dataRows, encodingRows, verifyRows}
 use Rattle.verify_rows.specs.Word.{row18, row19, spurious}
-use Rattle.verify_theorems.specs.LiveSlots.{LiveSlotsGone, SlotsS}
-use Rattle.verify_theorems.specs.LiveSlots.{Region, imageRegion, regions, Slots, noSlots, gather, held, liveSlots, listed}
-use Rattle.verify_theorems.specs.LiveSlots.{deadExcept, regionRow, l1RowsBefore, imageRowsBefore, dataRowsBefore}
+use Rattle.verify_theorems.specs.LiveSlots.{LiveEntry, imageEntry, liveEntries, Slots, noSlots, gather, held, liveSlots, listed}
+use Rattle.verify_theorems.specs.LiveSlots.{deadExcept, entryRow, l1RowsBefore, imageRowsBefore, dataRowsBefore, LiveSlotsGone}
 
-abbrev slots : List Region → List ℕ
-slots rs = map (λ r. r .slot) rs
+abbrev slots : List LiveEntry → List ℕ
+slots es = map (λ e. e .slot) es
 
 -- no place is past the end: the array holds the slots in the order in which they came
 gathered-slots :
-    (rs : List Region) (s : Slots) →
-    s .count + length rs ≤ length (s .places) → held (foldl gather s rs) ≡ held s ++ slots rs
+    (es : List LiveEntry) (s : Slots) →
+    s .count + length es ≤ length (s .places) → held (foldl gather s es) ≡ held s ++ slots es
 gathered-slots [] s h = sym (append-nil (held s))
-gathered-slots (r ∷ rs) s h =
-    let room : suc (s .count) + length rs ≤ length (gather s r .places) =
-    rw (length-set (s .places) (s .count) (r .slot)) (omega (arith, h)) in
-    gathered-slots rs (gather s r) room
-    ∙ ap (λ (front : List ℕ). front ++ slots rs) (take-suc-set (s .places) (s .count) (r .slot) (omega (arith, h)))
-    ∙ append-snoc (held s) (r .slot) (slots rs)
+gathered-slots (e ∷ es) s h =
+    let room : suc (s .count) + length es ≤ length (gather s e .places) =
+    rw (length-set (s .places) (s .count) (e .slot)) (omega (arith, h)) in
+    gathered-slots es (gather s e) room
+    ∙ ap (λ (front : List ℕ). front ++ slots es) (take-suc-set (s .places) (s .count) (e .slot) (omega (arith, h)))
+    ∙ append-snoc (held s) (e .slot) (slots es)
 
--- the region of an area, if it is present
-abbrev regionIf : Bool → Area → List Region
-regionIf present a = pick present (record { slot = areaSlot a; table = a .table } ∷ []) []
+-- the entry of an area, if it is present
+abbrev entryIf : Bool → Area → List LiveEntry
+entryIf present a = pick present (record { slot = areaSlot a; table = a .table } ∷ []) []
 
-abbrev regionOf : Area → List Region
-regionOf a = regionIf (a .present) a
+abbrev entryOf : Area → List LiveEntry
+entryOf a = entryIf (a .present) a
 
-of-image : (image : GuestImage) (table : ℕ) → imageRegion image table ≡ regionOf (area (imageWindow image) table)
+of-image : (image : GuestImage) (table : ℕ) → imageEntry image table ≡ entryOf (area (imageWindow image) table)
 of-image (At pa) table = refl
 of-image Absent table = refl
 
-in-order : (l : Layout) → regions l ≡ flatMap regionOf (liveAreasOf l)
+in-order : (l : Layout) → liveEntries l ≡ flatMap entryOf (liveAreasOf l)
 unfolding flatMap
 in-order l =
-    ap₂ (λ image device. regionOf (dataArea l) ++ (regionOf (superArea l) ++ (image ++ device)))
-    (of-image (l .«guest_image_pa») (l .«l2_code_pa»)) (sym (append-nil (regionOf (deviceArea l))))
+    ap₂ (λ image device. entryOf (dataArea l) ++ (entryOf (superArea l) ++ (image ++ device)))
+    (of-image (l .«guest_image_pa») (l .«l2_code_pa»)) (sym (append-nil (entryOf (deviceArea l))))
 
 -- laws of any areas
 
-no-more : (xs : List Area) → length (flatMap regionOf xs) ≤ length xs
+no-more : (xs : List Area) → length (flatMap entryOf xs) ≤ length xs
 unfolding flatMap
 no-more [] = omega arith
 no-more (a ∷ xs) = go (a .present) (no-more xs)
   where
-    go : (b : Bool) → length (flatMap regionOf xs) ≤ length xs → length (regionIf b a ++ flatMap regionOf xs) ≤ suc (length xs)
+    go : (b : Bool) → length (flatMap entryOf xs) ≤ length xs → length (entryIf b a ++ flatMap entryOf xs) ≤ suc (length xs)
     go true h = omega (arith, h)
     go false h = omega (arith, h)
 
-same-slots : (xs : List Area) (j : ℕ) → listed (slots (flatMap regionOf xs)) j ≡ windowAt xs j
+same-slots : (xs : List Area) (j : ℕ) → listed (slots (flatMap entryOf xs)) j ≡ windowAt xs j
 unfolding flatMap
 same-slots [] j = refl
 same-slots (a ∷ xs) j = go (a .present) (same-slots xs j)
   where
     go :
-        (b : Bool) → listed (slots (flatMap regionOf xs)) j ≡ windowAt xs j →
-        listed (slots (regionIf b a ++ flatMap regionOf xs)) j
+        (b : Bool) → listed (slots (flatMap entryOf xs)) j ≡ windowAt xs j →
+        listed (slots (entryIf b a ++ flatMap entryOf xs)) j
         ≡ ((b && eqb (areaSlot a) j) || windowAt xs j)
     go true later = rw later
     go false later = later
 
-same-rows : (arena : List ℕ) (xs : List Area) → each (regionRow arena) (flatMap regionOf xs) ≡ each (liveRow arena) xs
+same-rows : (arena : List ℕ) (xs : List Area) → each (entryRow arena) (flatMap entryOf xs) ≡ each (liveRow arena) xs
 unfolding flatMap liveRow
 same-rows arena [] = refl
 same-rows arena (a ∷ xs) = go (a .present) (same-rows arena xs)
   where
     go :
-        (b : Bool) → each (regionRow arena) (flatMap regionOf xs) ≡ each (liveRow arena) xs →
-        each (regionRow arena) (regionIf b a ++ flatMap regionOf xs)
+        (b : Bool) → each (entryRow arena) (flatMap entryOf xs) ≡ each (liveRow arena) xs →
+        each (entryRow arena) (entryIf b a ++ flatMap entryOf xs)
         ≡ given b (row18 1 (areaSlot a) (word arena 1 (areaSlot a)) (a .table)) ++ each (liveRow arena) xs
     go true later = rw later
     go false later = later
 
 -- the array has a place for each
-room : (l : Layout) → noSlots .count + length (regions l) ≤ length (noSlots .places)
+room : (l : Layout) → noSlots .count + length (liveEntries l) ≤ length (noSlots .places)
 room l =
     let areas = no-more (liveAreasOf l) in
-    subst (λ (rs : List Region). noSlots .count + length rs ≤ length (noSlots .places)) (sym (in-order l)) (omega (arith, areas))
+    subst (λ (es : List LiveEntry). noSlots .count + length es ≤ length (noSlots .places)) (sym (in-order l)) (omega (arith, areas))
 
 -- the slots that were gathered
 live-slots : (l : Layout) (j : ℕ) → listed (liveSlots l) j ≡ windowAt (liveAreasOf l) j
 live-slots l j =
-    ap (λ (live : List ℕ). listed live j) (gathered-slots (regions l) noSlots (room l) ∙ ap slots (in-order l))
+    ap (λ (live : List ℕ). listed live j) (gathered-slots (liveEntries l) noSlots (room l) ∙ ap slots (in-order l))
     ∙ same-slots (liveAreasOf l) j
 
 -- the words that a list of a table's live indices leaves are the others
@@ -116,7 +114,7 @@ others arena l t live same =
 table-1 : (arena : List ℕ) (l : Layout) → l1RowsBefore arena l ≡ l1Rows arena l
 unfolding l1Rows flatMap
 table-1 arena l =
-    ap₂ (λ live other. live ++ other) (ap (each (regionRow arena)) (in-order l) ∙ same-rows arena (liveAreasOf l))
+    ap₂ (λ live other. live ++ other) (ap (each (entryRow arena)) (in-order l) ∙ same-rows arena (liveAreasOf l))
     (others arena l 1 (liveSlots l) (live-slots l) ∙ sym (append-nil (otherRows arena l 1)))
 
 table-2 : (arena : List ℕ) (l : Layout) → imageRowsBefore arena (l .«guest_image_pa») ≡ imageRows arena l
@@ -152,7 +150,3 @@ pub live-slots-gone : LiveSlotsGone
 unfolding verifyRows encodingRows flatMap
 live-slots-gone arena base sup l =
     rw (append-nil (encodingRows arena base sup l), ← table-1 arena l, ← table-2 arena l, ← table-3 arena l)
-
-pub slots-S : SlotsS
-unfolding layoutOf
-slots-S = record { three = refl; two = refl; slot-0 = refl }

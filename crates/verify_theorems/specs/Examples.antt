@@ -1,5 +1,6 @@
 -- Document 01's examples of rows 18 to 22, and verification's order: of two wrong words the first in its list is told.
 use Prim.Native.Nat.{ℕ, _-_}
+use mathlib.Core.Bool.{false}
 use mathlib.Core.List.{List, [], _∷_, map}
 use mathlib.Core.Path.{_≡_}
 use lib.ListN.{replicate}
@@ -9,6 +10,7 @@ use Rattle.refusal.specs.Table.{Row, row, Outcome, refused, first}
 use Rattle.rows.specs.Examples.{sceneS, baseS, supS, line}
 use Rattle.rows.specs.Faults.{Fault, fault, FirstTold}
 use Rattle.rows.specs.WithinRows.{imaged}
+use Rattle.verify_theorems.specs.LiveSlots.{gathered, liveSlots, listed}
 use Rattle.verify_theorems.specs.Verified.{Guarding, Encoded, Verifies, storedAt}
 use Rattle.verify_rows.specs.Verifying.{verifyRows}
 
@@ -131,3 +133,9 @@ pub record BeforeWords : Type 0 where
       first (verifyRows (replicate arenaLength 0) (4 ∷ []) supS (layoutOf (line 0xC 0x5000_0000 sceneS)))
       ≡ refused (row 3 (1 ∷ 0 ∷ []))
   pub arena : first (verifyRows (replicate (arenaLength - 1) 0) (4 ∷ []) supS (layoutOf sceneS)) ≡ refused (row 1 [])
+
+-- the live slots as they were gathered: S has three, and without its device two. The places that are left hold 0, and slot 0 is not live
+pub record SlotsS : Type 0 where
+  pub three : gathered (layoutOf sceneS) ≡ record { places = 2 ∷ 3 ∷ 0 ∷ 0 ∷ []; count = 3 }
+  pub two : gathered (layoutOf (line 0xE 0 sceneS)) ≡ record { places = 2 ∷ 3 ∷ 0 ∷ 0 ∷ []; count = 2 }
+  pub slot-0 : listed (liveSlots (layoutOf (line 0xE 0 sceneS))) 0 ≡ false

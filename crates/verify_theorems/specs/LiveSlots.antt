@@ -7,39 +7,38 @@ use mathlib.Core.Path.{_≡_}
 use lib.Dec.{eqb, ltb}
 use lib.ListN.{set, take}
 use Rattle.fields.specs.Named.{pick}
-use Rattle.layout.specs.Layout.{layoutOf}
 use Rattle.layout.specs.Window.{deviceWindow, l1Slot, l2Slot}
 use Rattle.layout.specs.declared.GuestImage.the-variants.{At, Absent}
 use Rattle.layout.specs.declared.GuestImage.{GuestImage}
 use Rattle.layout.specs.declared.Layout.{Layout}
 use Rattle.refusal.specs.Table.{Row, given, each, allRows}
-use Rattle.rows.specs.Examples.{sceneS, line}
 use Rattle.rows.specs.Rows.{row1, mapRows, refusals}
 use Rattle.verify_rows.specs.Verifying.{word, indices, pageRows, superRows, deviceRows, verifyRows}
 use Rattle.verify_rows.specs.Word.{row18, row19, spurious}
 
--- a region that is there: its slot in table 1, and the table that the word there names
-pub record Region : Type 0 where
+-- a live entry of table 1: its slot, and the table that it is to name
+pub record LiveEntry : Type 0 where
   pub slot : ℕ
   pub table : ℕ
 
-abbrev pub region : ℕ → ℕ → Region
-region ipa table = record { slot = l1Slot ipa; table = table }
+abbrev pub liveEntry : ℕ → ℕ → LiveEntry
+liveEntry ipa table = record { slot = l1Slot ipa; table = table }
 
-abbrev pub imageRegion : GuestImage → ℕ → List Region
-imageRegion (At pa) table = region pa table ∷ []
-imageRegion Absent table = []
+-- none where image or device is absent
+abbrev pub imageEntry : GuestImage → ℕ → List LiveEntry
+imageEntry (At pa) table = liveEntry pa table ∷ []
+imageEntry Absent table = []
 
-abbrev pub deviceRegion : ℕ → ℕ → ℕ → List Region
-deviceRegion base len table = pick (ltb 0 len) (region base table ∷ []) []
+abbrev pub deviceEntry : ℕ → ℕ → ℕ → List LiveEntry
+deviceEntry base len table = pick (ltb 0 len) (liveEntry base table ∷ []) []
 
 -- data, super, image, device
-abbrev pub regions : Layout → List Region
-regions l =
-    region (l .«data_ipa_base») (l .«l2_data_pa»)
-    ∷ region (l .«sup_ipa_base») (l .«l2_sup_pa»)
-    ∷ imageRegion (l .«guest_image_pa») (l .«l2_code_pa»)
-    ++ deviceRegion (l .«device_base») (l .«device_len») (l .«l2_dev_pa»)
+abbrev pub liveEntries : Layout → List LiveEntry
+liveEntries l =
+    liveEntry (l .«data_ipa_base») (l .«l2_data_pa»)
+    ∷ liveEntry (l .«sup_ipa_base») (l .«l2_sup_pa»)
+    ∷ imageEntry (l .«guest_image_pa») (l .«l2_code_pa»)
+    ++ deviceEntry (l .«device_base») (l .«device_len») (l .«l2_dev_pa»)
 
 -- an array of four, and how many slots it holds
 pub record Slots : Type 0 where
@@ -49,15 +48,16 @@ pub record Slots : Type 0 where
 abbrev pub noSlots : Slots
 noSlots = record { places = 0 ∷ 0 ∷ 0 ∷ 0 ∷ []; count = 0 }
 
--- the next place takes a region's slot
-abbrev pub gather : Slots → Region → Slots
-gather s r = record { places = set (s .places) (s .count) (r .slot); count = suc (s .count) }
+-- the next place takes the slot of an entry
+abbrev pub gather : Slots → LiveEntry → Slots
+gather s e = record { places = set (s .places) (s .count) (e .slot); count = suc (s .count) }
 
 abbrev pub held : Slots → List ℕ
 held s = take (s .count) (s .places)
 
+-- the Rust gathers while it compares, and returns at the first word that is wrong: where the list is asked, all are in it
 abbrev pub gathered : Layout → Slots
-gathered l = foldl gather noSlots (regions l)
+gathered l = foldl gather noSlots (liveEntries l)
 
 abbrev pub liveSlots : Layout → List ℕ
 liveSlots l = held (gathered l)
@@ -74,12 +74,12 @@ deadRow arena t live j =
 abbrev pub deadExcept : List ℕ → ℕ → List ℕ → List Row
 deadExcept arena t live = each (deadRow arena t live) indices
 
--- the word of a region: 18
-abbrev pub regionRow : List ℕ → Region → List Row
-regionRow arena r = row18 1 (r .slot) (word arena 1 (r .slot)) (r .table)
+-- the word of a live entry: 18
+abbrev pub entryRow : List ℕ → LiveEntry → List Row
+entryRow arena e = row18 1 (e .slot) (word arena 1 (e .slot)) (e .table)
 
 abbrev pub l1RowsBefore : List ℕ → Layout → List Row
-l1RowsBefore arena l = each (regionRow arena) (regions l) ++ deadExcept arena 1 (liveSlots l)
+l1RowsBefore arena l = each (entryRow arena) (liveEntries l) ++ deadExcept arena 1 (liveSlots l)
 
 abbrev pub imageRowsBefore : List ℕ → GuestImage → List Row
 imageRowsBefore arena (At pa) = row19 (word arena 2 (l2Slot pa)) pa ++ deadExcept arena 2 (l2Slot pa ∷ [])
@@ -107,9 +107,3 @@ verifyRowsBefore arena base sup l =
 abbrev pub LiveSlotsGone : Type 0
 LiveSlotsGone =
     (arena base sup : List ℕ) (l : Layout) → verifyRows arena base sup l ≡ verifyRowsBefore arena base sup l
-
--- S gathers three, and without its device two. The places that are left hold 0, and slot 0 is not live
-pub record SlotsS : Type 0 where
-  pub three : gathered (layoutOf sceneS) ≡ record { places = 2 ∷ 3 ∷ 0 ∷ 0 ∷ []; count = 3 }
-  pub two : gathered (layoutOf (line 0xE 0 sceneS)) ≡ record { places = 2 ∷ 3 ∷ 0 ∷ 0 ∷ []; count = 2 }
-  pub slot-0 : listed (liveSlots (layoutOf (line 0xE 0 sceneS))) 0 ≡ false

@@ -1,5 +1,6 @@
 //! Which slots of l1 are live: an absent image or device has none, though its address names one, and
-//! no slot is live for want of another.
+//! a place of a list that holds no slot makes none live. Each such answer is counted here; other
+//! inputs show the slips too.
 
 use crate::damage::damage;
 use crate::encode_inputs::scene;

@@ -7,7 +7,7 @@ use mathlib.Core.Path.{_≡_, refl, sym, ap, _∙_}
 use native.Mathlib.Omega.{arith}
 use lib.ListN.{length, drop, getD}
 use borrow.Author.Needs.{needs}
-use Rattle.arena.proofs.At.{noArea}
+use Rattle.areas.specs.Area.{noArea}
 use Rattle.arena.specs.Encoded.{stored, areaRun}
 use Rattle.arena.specs.Word.{tableTo}
 use Rattle.fields.specs.Named.{pick}

@@ -1,5 +1,5 @@
 -- `past_zeros` meets its contract: from j to k no row is passed over.
-use Prim.Native.Nat.{ℕ, _+_, _-_, _≤_}
+use Prim.Native.Nat.{ℕ, _+_, _-_, _≤_, _<_}
 use mathlib.Core.Path.{_≡_, refl, _∙_}
 use native.Mathlib.Omega.{arith}
 use lib.ListN.{getD}
@@ -113,11 +113,9 @@ loop-again c =
     let one = below-next P k (λ i lt le. omega (arith, lt, le)) (λ le. at k (first .if2 .left)) in
     let two = below-next P (k + 1) one (λ le. at (k + 1) (second .if3 .left)) in
     let three = below-next P (k + 2) (λ i lt. two i (omega (arith, lt))) (λ le. at (k + 2) (third .if4 .left)) in
-    let four = below-next P (k + 3) (λ i lt. three i (omega (arith, lt))) (λ le. at (k + 3) (c .if5 .left)) in (
-      omega arith,
-      omega arith,
-      λ l. h .loop .inv .2 l ∙ zeros (now (a .arena)) l (a .table) k (k + 4) (omega arith, omega arith, λ i lt. four i (omega (arith, lt))),
-    )
+    let four = below-next P (k + 3) (λ i lt. three i (omega (arith, lt))) (λ le. at (k + 3) (c .if5 .left)) in
+    let none : (i : ℕ) → i < k + 4 → P i = λ i lt. four i (omega (arith, lt)) in
+    (omega arith, omega arith, λ l. h .loop .inv .2 l ∙ zeros (now (a .arena)) l (a .table) k (k + 4) (omega arith) (omega arith) none)
 
 returns-6 : tie.Need-returns-6 Inv-loop μ-loop
 returns-6 c = c .before .loop .inv
