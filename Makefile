@@ -124,7 +124,7 @@ arm-short: judge-library ## 1.5 min ## the same with fewer scenes, where QEMU is
 	@arm/run.sh 60 1
 
 # Every fault of the compiled libraries is noticed.
-sabotage: libraries ## 30 min ## faults in the compiled libraries, each of which is noticed
+sabotage: libraries ## 47 min ## faults in the compiled libraries, each of which is noticed
 	@sabotage/run.sh
 
 # What board code links: for the board, and for the machine that builds.
