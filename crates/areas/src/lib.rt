@@ -22,7 +22,7 @@ fn stored_area(l: Layout, i: usize) -> Area
             Area::of(image_pa.window(), l.l2_code_pa)
         }
         1 => Area::of(l.data_window(), l.l2_data_pa),
-        // Its window is counted by row 8 alone.
+        // Not by its window, which is offered only where row 8 lets it by.
         2 => Area {
             present: true,
             ipa: l.sup_ipa_base,
