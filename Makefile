@@ -26,7 +26,7 @@ run: ## 4 min ## proves the program and what it needs, builds it and runs it on 
 
 # rt ci begins by removing target/: run first, what it proved serves the rest. Its verdict comes last. It waits for each batch of jobs to
 # end: with four on two cores, none idles while the longest of a batch goes on.
-test: ## 23 min ## the gate: every proof and edit from nothing, then compare, arm-short, board, scenes, header and pages; its last line is rt's
+test: ## 24 min ## the gate: every proof and edit from nothing, then compare, arm-short, board, scenes, header and pages; its last line is rt's
 	@rt fmt --check
 	@echo "rt ci: $$(awk -f tools/needed.awk crates.txt) crates to prove, $$(ls crates/*/must-fail/*.edit | wc -l) edits to be refused"
 	@RT_JOBS=$${RT_JOBS:-4} tools/progress.sh target/ci.log rt ci
@@ -123,8 +123,8 @@ arm-short: judge-library ## 1.5 min ## the same with fewer scenes, where QEMU is
 	@arm/build.sh
 	@arm/run.sh 60 1
 
-# Every fault of the compiled libraries is noticed.
-sabotage: libraries ## 47 min ## faults in the compiled libraries, each of which is noticed
+# Every fault of the compiled libraries is noticed, or listed.
+sabotage: libraries ## 47 min ## faults in the compiled libraries, each noticed or listed with its reason
 	@sabotage/run.sh
 
 # What board code links: for the board, and for the machine that builds.

@@ -18,7 +18,8 @@ use Rattle.refusal.specs.Table.{Row, given, each}
 use Rattle.verify_rows.specs.Verifying.{word, indices, windowAt, liveAt, liveRow, otherRow}
 use Rattle.verify_rows.specs.Verifying.{otherRows, l1Rows, imageRows, dataRows, encodingRows, verifyRows}
 use Rattle.verify_rows.specs.Word.{row18, row19, spurious}
-use Rattle.verify_theorems.specs.LiveSlots.{LiveEntry, imageEntry, liveEntries, Slots, noSlots, gather, held, liveSlots, listed}
+use Rattle.verify_theorems.specs.LiveSlots.{LiveEntry, liveEntry, imageEntry, liveEntries, Slots}
+use Rattle.verify_theorems.specs.LiveSlots.{noSlots, gather, held, liveSlots, listed}
 use Rattle.verify_theorems.specs.LiveSlots.{deadExcept, entryRow, l1RowsBefore, imageRowsBefore, dataRowsBefore, LiveSlotsGone}
 
 abbrev slots : List LiveEntry → List ℕ
@@ -38,7 +39,7 @@ gathered-slots (e ∷ es) s h =
 
 -- the entry of an area, if it is present
 abbrev entryIf : Bool → Area → List LiveEntry
-entryIf present a = pick present (record { slot = areaSlot a; table = a .table } ∷ []) []
+entryIf present a = pick present (liveEntry (a .ipa) (a .table) ∷ []) []
 
 abbrev entryOf : Area → List LiveEntry
 entryOf a = entryIf (a .present) a

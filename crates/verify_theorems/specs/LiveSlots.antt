@@ -52,6 +52,7 @@ noSlots = record { places = 0 ∷ 0 ∷ 0 ∷ 0 ∷ []; count = 0 }
 abbrev pub gather : Slots → LiveEntry → Slots
 gather s e = record { places = set (s .places) (s .count) (e .slot); count = suc (s .count) }
 
+-- the slots that it holds
 abbrev pub held : Slots → List ℕ
 held s = take (s .count) (s .places)
 
@@ -62,6 +63,7 @@ gathered l = foldl gather noSlots (liveEntries l)
 abbrev pub liveSlots : Layout → List ℕ
 liveSlots l = held (gathered l)
 
+-- an index is in a list
 abbrev pub listed : List ℕ → ℕ → Bool
 listed [] j = false
 listed (i ∷ rest) j = eqb i j || listed rest j
@@ -78,13 +80,16 @@ deadExcept arena t live = each (deadRow arena t live) indices
 abbrev pub entryRow : List ℕ → LiveEntry → List Row
 entryRow arena e = row18 1 (e .slot) (word arena 1 (e .slot)) (e .table)
 
+-- table 1: 18, then 21
 abbrev pub l1RowsBefore : List ℕ → Layout → List Row
 l1RowsBefore arena l = each (entryRow arena) (liveEntries l) ++ deadExcept arena 1 (liveSlots l)
 
+-- table 2: 19, if there is an image, then 21
 abbrev pub imageRowsBefore : List ℕ → GuestImage → List Row
 imageRowsBefore arena (At pa) = row19 (word arena 2 (l2Slot pa)) pa ++ deadExcept arena 2 (l2Slot pa ∷ [])
 imageRowsBefore arena Absent = deadExcept arena 2 []
 
+-- table 3, with the index and the address of the table of data's pages: 18, then 21
 abbrev pub dataRowsBefore : List ℕ → ℕ → ℕ → List Row
 dataRowsBefore arena j pa = row18 3 j (word arena 3 j) pa ++ deadExcept arena 3 (j ∷ [])
 
