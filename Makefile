@@ -26,7 +26,7 @@ run: ## 4 min ## proves the program and what it needs, builds it and runs it on 
 
 # rt ci begins by removing target/: run first, what it proved serves the rest. Its verdict comes last. It waits for each batch of jobs to
 # end: with four on two cores, none idles while the longest of a batch goes on.
-test: ## 24 min ## the gate: every proof and edit from nothing, then compare, arm-short, board, scenes, header and pages; its last line is rt's
+test: ## 25 min ## the gate: every proof and edit from nothing, then compare, arm-short, board, scenes, header and pages; its last line is rt's
 	@rt fmt --check
 	@echo "rt ci: $$(awk -f tools/needed.awk crates.txt) crates to prove, $$(ls crates/*/must-fail/*.edit | wc -l) edits to be refused"
 	@RT_JOBS=$${RT_JOBS:-4} tools/progress.sh target/ci.log rt ci
