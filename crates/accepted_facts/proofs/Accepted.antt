@@ -9,18 +9,18 @@ use native.Mathlib.Omega.{arith}
 use lib.Dec.{ltb}
 use lib.ListN.{length, get_or}
 use borrow.Author.Tests.{ltb-true, ltb-false, leb-false, eqb-true, eqb-false, not-false, le-ltb}
-use Rattle.layout.specs.Check.{unaligned, check, checksOf}
+use Rattle.layout.specs.Check.{unaligned, check, checks_of}
 use Rattle.layout.specs.Layout.{tables_of}
-use Rattle.layout.specs.Size.{l1Span, inputLimit}
-use Rattle.layout.specs.Window.{devicesOf, windowsOf, slot}
+use Rattle.layout.specs.Size.{l1_span, input_limit}
+use Rattle.layout.specs.Window.{devices_of, windows_of, slot}
 use Rattle.layout.specs.declared.Layout.{Layout}
 use Rattle.layout.specs.declared.Table.{Table}
 use Rattle.layout.specs.declared.Window.{Window}
-use Rattle.refusal.proofs.All.{all-at, all_map, all_both, pairs-map}
-use Rattle.refusal.proofs.None.{none, both, test, under, each_none, pairs-none}
+use Rattle.refusal.proofs.All.{all_at, all_map, all_both, pairs_map}
+use Rattle.refusal.proofs.None.{none, both, test, under, each_none, pairs_none}
 use Rattle.refusal.specs.All.{All}
 use Rattle.refusal.specs.Table.{each, pairs}
-use Rattle.rows.specs.Rows.{capped, row4, row5, row6, row7, row8, row9, row10, row11, overlap, row12, pairRows, windowRows, refusalsAt}
+use Rattle.rows.specs.Rows.{capped, row4, row5, row6, row7, row8, row9, row10, row11, overlap, row12, pair_rows, window_rows, refusals_at}
 use Rattle.accepted_facts.specs.Accepted.{Aligned, Nameable, Within, Disjoint, Apart, AcceptedFacts, NoInputOverlap}
 
 neither : (a b : Bool) → (a || b) ≡ false → (a ≡ false) × (b ≡ false)
@@ -29,7 +29,7 @@ neither false b e = (refl, e)
 
 -- row 9
 
-inside : (w : Window) → w.present ≡ true → row9 w ≡ [] → (w.ipa < inputLimit) × (w.ipa % l1Span + w.span ≤ l1Span)
+inside : (w : Window) → w.present ≡ true → row9 w ≡ [] → (w.ipa < input_limit) × (w.ipa % l1_span + w.span ≤ l1_span)
 unfolding row9
 inside w p e =
     let t = neither _ _ (test _ _ _ (under w.present _ p e)) in (leb-false _ _ t.0, ltb-false _ _ t.1)
@@ -66,24 +66,24 @@ outputs a alen b blen e = go (ltb a (b + blen)) refl e
     go true h f = inl (ltb-false _ _ f)
     go false h f = inr (ltb-false _ _ h)
 
-pair-rows :
-    (v w : Window) → v.present ≡ true → w.present ≡ true → pairRows v w ≡ [] → (row11 v w ≡ []) × (row12 v w ≡ [])
-unfolding pairRows
-pair-rows v w p q e =
+pair_rows_lem :
+    (v w : Window) → v.present ≡ true → w.present ≡ true → pair_rows v w ≡ [] → (row11 v w ≡ []) × (row12 v w ≡ [])
+unfolding pair_rows
+pair_rows_lem v w p q e =
     let f : (v.present && w.present) ≡ true = rw (p, q) in
     both (row11 v w) (row12 v w) (under (v.present && w.present) (row11 v w ++ row12 v w) f e)
 
 different : (v w : Window) → row11 v w ≡ [] → slot v ≡ slot w → ⊥
 different v w e = eqb-false _ _ (test _ _ _ e)
 
-apart : (v w : Window) → row9 v ≡ [] → row9 w ≡ [] → pairRows v w ≡ [] → v.present ≡ true → w.present ≡ true → Apart v w
+apart : (v w : Window) → row9 v ≡ [] → row9 w ≡ [] → pair_rows v w ≡ [] → v.present ≡ true → w.present ≡ true → Apart v w
 apart v w e f g p q =
-    let r = pair-rows v w p q g in
+    let r = pair_rows_lem v w p q g in
     let s = different v w r.0 in
     record { slots = s; inputs = inputs v w p q e f s; outputs = outputs _ _ _ _ (test _ _ _ r.1) }
 
-pub no-input-overlap : NoInputOverlap
-no-input-overlap v w p q e f g = go (inputs v w p q e f (different v w g))
+pub no_input_overlap : NoInputOverlap
+no_input_overlap v w p q e f g = go (inputs v w p q e f (different v w g))
   where
     go : Disjoint v.ipa v.span w.ipa w.span → overlap v.ipa v.span w.ipa w.span ≡ false
     go (inl h) = rw (le-ltb _ _ h) (and-false (ltb v.ipa (w.ipa + w.span)))
@@ -117,44 +117,44 @@ checked n applies base align e p =
     let f : (applies && unaligned base align) ≡ false = test _ _ _ e in aligned base align (rw p at f)
 
 passes :
-    (l : Layout) → each row6 (checksOf l) ≡ [] → (k : ℕ) → k < length (checksOf l) → row6 (get_or (checksOf l) k (check 0 false 0 0)) ≡ []
-passes l e k h = all-at (λ c. row6 c ≡ []) (checksOf l) k (check 0 false 0 0) h (each_none row6 (checksOf l) e)
+    (l : Layout) → each row6 (checks_of l) ≡ [] → (k : ℕ) → k < length (checks_of l) → row6 (get_or (checks_of l) k (check 0 false 0 0)) ≡ []
+passes l e k h = all_at (λ c. row6 c ≡ []) (checks_of l) k (check 0 false 0 0) h (each_none row6 (checks_of l) e)
 
-pub accepted-facts : AcceptedFacts
-unfolding refusalsAt windowRows flat_map row5 row8
-accepted-facts limit l e =
+pub accepted_facts : AcceptedFacts
+unfolding refusals_at window_rows flat_map row5 row8
+accepted_facts limit l e =
     let held = capped limit in
     let rows = none _ e in
-    let r4 = both (each row4 (devicesOf l)) _ rows in
+    let r4 = both (each row4 (devices_of l)) _ rows in
     let r5 = both (row5 l) _ r4.1 in
-    let r6 = both (each row6 (checksOf l)) _ r5.1 in
+    let r6 = both (each row6 (checks_of l)) _ r5.1 in
     let r7 = both (each (row7 held) (tables_of l)) _ r6.1 in
     let r8 = both (row8 l) _ r7.1 in
-    let rest = (both (windowRows held (windowsOf l)) [] r8.1).0 in
-    let r9 = both (each row9 (windowsOf l)) _ rest in
-    let r10 = both (each (row10 held) (windowsOf l)) _ r9.1 in
-    let r11 = both (pairs pairRows (windowsOf l)) [] r10.1 in
-    let in-slots = each_none row9 (windowsOf l) r9.0 in
-    let in_reach = each_none (row10 held) (windowsOf l) r10.0 in
+    let rest = (both (window_rows held (windows_of l)) [] r8.1).0 in
+    let r9 = both (each row9 (windows_of l)) _ rest in
+    let r10 = both (each (row10 held) (windows_of l)) _ r9.1 in
+    let r11 = both (pairs pair_rows (windows_of l)) [] r10.1 in
+    let in-slots = each_none row9 (windows_of l) r9.0 in
+    let in_reach = each_none (row10 held) (windows_of l) r10.0 in
     record {
-      lengths = all_map (λ w. row4 w ≡ []) _ whole (devicesOf l) (each_none row4 (devicesOf l) r4.0);
-      frame-size = eqb-true _ _ (not-false _ (test _ _ _ r5.0));
-      data-ipa = checked 1 true _ _ (passes l r6.0 0 (omega arith)) refl;
-      data-pa = checked 2 true _ _ (passes l r6.0 1 (omega arith)) refl;
-      sup-ipa = checked 3 true _ _ (passes l r6.0 2 (omega arith)) refl;
-      sup-pa = checked 4 true _ _ (passes l r6.0 3 (omega arith)) refl;
+      lengths = all_map (λ w. row4 w ≡ []) _ whole (devices_of l) (each_none row4 (devices_of l) r4.0);
+      frame_size = eqb-true _ _ (not-false _ (test _ _ _ r5.0));
+      data_ipa = checked 1 true _ _ (passes l r6.0 0 (omega arith)) refl;
+      data_pa = checked 2 true _ _ (passes l r6.0 1 (omega arith)) refl;
+      sup_ipa = checked 3 true _ _ (passes l r6.0 2 (omega arith)) refl;
+      sup_pa = checked 4 true _ _ (passes l r6.0 3 (omega arith)) refl;
       image = checked 5 _ _ _ (passes l r6.0 4 (omega arith));
       devices = (checked 6 _ _ _ (passes l r6.0 5 (omega arith)), tt);
       tables = all_map (λ t. row7 held t ≡ []) _ (nameable held) (tables_of l) (each_none (row7 held) (tables_of l) r7.0);
       frames = leb-false _ _ (test _ _ _ r8.0);
-      windows = all_map _ _ (within held) (windowsOf l)
-          (all_both (λ w. row9 w ≡ []) (λ w. row10 held w ≡ []) (windowsOf l) in-slots in_reach);
-      apart = pairs-map (λ w. row9 w ≡ []) _ _ apart (windowsOf l) in-slots (pairs-none pairRows (windowsOf l) r11.0);
+      windows = all_map _ _ (within held) (windows_of l)
+          (all_both (λ w. row9 w ≡ []) (λ w. row10 held w ≡ []) (windows_of l) in-slots in_reach);
+      apart = pairs_map (λ w. row9 w ≡ []) _ _ apart (windows_of l) in-slots (pairs_none pair_rows (windows_of l) r11.0);
     }
 
 -- a device that is absent has no length
 no_length : (n : ℕ) → ltb 0 n ≡ false → n ≡ 0
 no_length n e = let h = ltb-false 0 n e in omega (arith, h)
 
-pub absent-devices : (l : Layout) → All (λ w. w.present ≡ false → w.span ≡ 0) (devicesOf l)
-absent-devices l = (no_length l.device_len, tt)
+pub absent_devices : (l : Layout) → All (λ w. w.present ≡ false → w.span ≡ 0) (devices_of l)
+absent_devices l = (no_length l.device_len, tt)

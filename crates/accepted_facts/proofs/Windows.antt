@@ -2,20 +2,20 @@
 use Prim.Native.Nat.{ℕ}
 use mathlib.Core.Bool.{true}
 use mathlib.Core.Path.{◌≡◌, refl}
-use Rattle.layout.specs.Window.{imageWindow, dataWindow, superWindow, devicesOf}
+use Rattle.layout.specs.Window.{image_window, data_window, super_window, devices_of}
 use Rattle.layout.specs.declared.Layout.{Layout}
 use Rattle.refusal.specs.All.{All}
 use Rattle.accepted_facts.specs.Accepted.{Accepted, Within}
 
 module _ {limit : ℕ} {l : Layout} (facts : Accepted limit l) where
-  pub image-within : (imageWindow l.guest_image_pa).present ≡ true → Within limit (imageWindow l.guest_image_pa)
-  image-within = facts.windows.0
+  pub image_within : (image_window l.guest_image_pa).present ≡ true → Within limit (image_window l.guest_image_pa)
+  image_within = facts.windows.0
 
-  pub data-within : Within limit (dataWindow l)
-  data-within = facts.windows.1.0 refl
+  pub data_within : Within limit (data_window l)
+  data_within = facts.windows.1.0 refl
 
-  pub super-within : Within limit (superWindow l)
-  super-within = facts.windows.1.1.0 refl
+  pub super_within : Within limit (super_window l)
+  super_within = facts.windows.1.1.0 refl
 
-  pub devices-within : All (λ w. w.present ≡ true → Within limit w) (devicesOf l)
-  devices-within = facts.windows.1.1.1
+  pub devices_within : All (λ w. w.present ≡ true → Within limit w) (devices_of l)
+  devices_within = facts.windows.1.1.1

@@ -1,7 +1,7 @@
 // Rows 4, 6 and 7 of document 01's table, each over its list: lengths, bases and table addresses (hv-s2's arm64.rs, `validate`).
 ghost use Rattle.std.specs.Prelude.{true, ◌≡◌};
-ghost use Rattle.layout.specs.Check.{checksOf};
-ghost use Rattle.refusal.specs.Outcome.{outcomeOf};
+ghost use Rattle.layout.specs.Check.{checks_of};
+ghost use Rattle.refusal.specs.Outcome.{outcome_of};
 ghost use Rattle.refusal.specs.Table.{accepted, first, each};
 ghost use Rattle.rows.specs.Rows.{row4, row6, row7};
 
@@ -9,7 +9,7 @@ use layout::{Check, Layout, Table, Window};
 use refusal::{Refusal, Verdict};
 
 pub fn all_whole(ds: [Window; Layout::DEVICES]) -> Verdict
-    ensures { outcomeOf result ≡ first (each row4 ds) }
+    ensures { outcome_of result ≡ first (each row4 ds) }
 {
     for i in 0..Layout::DEVICES {
         let verdict = whole(ds[i]);
@@ -22,7 +22,7 @@ pub fn all_whole(ds: [Window; Layout::DEVICES]) -> Verdict
 
 // Row 4. A device is mapped by whole blocks.
 fn whole(d: Window) -> Verdict
-    ensures { outcomeOf result ≡ first (row4 d) }
+    ensures { outcome_of result ≡ first (row4 d) }
 {
     if d.span % Layout::BLOCK_SIZE != 0 {
         return Verdict::Refused(Refusal::DeviceWindowUnaligned {
@@ -35,7 +35,7 @@ fn whole(d: Window) -> Verdict
 
 // Row 6, of every check. The pass that finds none that fails needs no array of them in memory, and an aligned layout needs no other.
 pub fn all_aligned(l: Layout) -> Verdict
-    ensures { outcomeOf result ≡ first (each row6 (checksOf l)) }
+    ensures { outcome_of result ≡ first (each row6 (checks_of l)) }
 {
     if none_fails(l.checks()) {
         return Verdict::Accepted;
@@ -57,7 +57,7 @@ fn none_fails(cs: [Check; Layout::CHECKS]) -> bool
 }
 
 fn first_unaligned(cs: [Check; Layout::CHECKS]) -> Verdict
-    ensures { outcomeOf result ≡ first (each row6 cs) }
+    ensures { outcome_of result ≡ first (each row6 cs) }
 {
     for i in 0..Layout::CHECKS {
         let verdict = aligned(cs[i]);
@@ -70,7 +70,7 @@ fn first_unaligned(cs: [Check; Layout::CHECKS]) -> Verdict
 
 // Row 6. Unless it is aligned, a walk's index is not the one that a descriptor was written at.
 fn aligned(c: Check) -> Verdict
-    ensures { outcomeOf result ≡ first (row6 c) }
+    ensures { outcome_of result ≡ first (row6 c) }
 {
     if c.fails {
         return Verdict::Refused(Refusal::WindowUnaligned {
@@ -83,7 +83,7 @@ fn aligned(c: Check) -> Verdict
 }
 
 pub fn all_nameable(limit: u64, ts: [Table; Layout::TABLES]) -> Verdict
-    ensures { outcomeOf result ≡ first (each (row7 limit) ts) }
+    ensures { outcome_of result ≡ first (each (row7 limit) ts) }
 {
     for i in 0..Layout::TABLES {
         let verdict = nameable(limit, ts[i]);
@@ -96,7 +96,7 @@ pub fn all_nameable(limit: u64, ts: [Table; Layout::TABLES]) -> Verdict
 
 // Row 7. A register or a descriptor would cut the address, and a walk would read another table.
 fn nameable(limit: u64, t: Table) -> Verdict
-    ensures { outcomeOf result ≡ first (row7 limit t) }
+    ensures { outcome_of result ≡ first (row7 limit t) }
 {
     if !t.present {
         return Verdict::Accepted;

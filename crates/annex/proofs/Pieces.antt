@@ -9,25 +9,25 @@ use lib.Dec.{eqb, ltb}
 use lib.ListN.{length, get_or, get_or-eq_default}
 use borrow.Author.Tests.{ltb-true}
 use Rattle.fields.specs.Named.{pick}
-use Rattle.annex.specs.Writing.{pieceBefore, lower}
+use Rattle.annex.specs.Writing.{piece_before, lower}
 use Rattle.reach.specs.declared.Reached.{Reached}
 use Rattle.reach.specs.declared.Reached.TheVariants.{At, Nothing}
 use Rattle.runs.proofs.Pieces.{further, gap, piece}
-use Rattle.runs.specs.Runs.{run, before, runsFrom}
+use Rattle.runs.specs.Runs.{run, before, runs_from}
 use Rattle.runs.specs.declared.Run.{Run}
-use Rattle.window_reach.specs.Granted.{byEntry}
+use Rattle.window_reach.specs.Granted.{by_entry}
 
 -- what is reached i bytes on
 abbrev moved : Reached → ℕ → Reached
 moved (At r) i = At (further r i)
 moved Nothing i = Nothing
 
-by-entry-moved : (pa i : ℕ) (exempt : Bool) (e : ℕ) → byEntry (pa + i) exempt e ≡ moved (byEntry pa exempt e) i
-by-entry-moved pa i exempt e = go (eqb e 1) (eqb e 2) (eqb e 3) refl refl refl
+by_entry_moved : (pa i : ℕ) (exempt : Bool) (e : ℕ) → by_entry (pa + i) exempt e ≡ moved (by_entry pa exempt e) i
+by_entry_moved pa i exempt e = go (eqb e 1) (eqb e 2) (eqb e 3) refl refl refl
   where
     go :
         (a b c : Bool) → eqb e 1 ≡ a → eqb e 2 ≡ b → eqb e 3 ≡ c →
-        byEntry (pa + i) exempt e ≡ moved (byEntry pa exempt e) i
+        by_entry (pa + i) exempt e ≡ moved (by_entry pa exempt e) i
     go true b c p q r = rw p refl
     go false true c p q r = rw (p, q) refl
     go false false true p q r = rw (p, q, r) refl
@@ -37,53 +37,53 @@ module _ (f : ℕ → Reached) (x size n : ℕ) (some : 0 < size) where
   -- by the answer at the first of them
   by_first :
       (r : Reached) → ((i : ℕ) → i < size → f (x + i) ≡ moved r i) →
-      runsFrom f x (size + n) ≡ pieceBefore x (x + (size - 1)) r (runsFrom f (x + size) n)
+      runs_from f x (size + n) ≡ piece_before x (x + (size - 1)) r (runs_from f (x + size) n)
   by_first (At r) all =
       let e : suc (size - 1) ≡ size = omega (arith, some) in
-      ap (λ k. runsFrom f x (k + n)) (sym e)
+      ap (λ k. runs_from f x (k + n)) (sym e)
       ∙ piece f (size - 1) x n r (λ i h. all i (omega (arith, h, some)))
-      ∙ ap (λ k. before (run x (x + (size - 1)) r) (runsFrom f (x + k) n)) e
+      ∙ ap (λ k. before (run x (x + (size - 1)) r) (runs_from f (x + k) n)) e
   by_first Nothing all = gap f size x n all
 
   pub one_entry :
-      (pa : ℕ) (exempt : Bool) (e : ℕ) → ((i : ℕ) → i < size → f (x + i) ≡ byEntry (pa + i) exempt e) →
-      runsFrom f x (size + n) ≡ pieceBefore x (x + (size - 1)) (byEntry pa exempt e) (runsFrom f (x + size) n)
-  one_entry pa exempt e all = by_first (byEntry pa exempt e) (λ i h. all i h ∙ by-entry-moved pa i exempt e)
+      (pa : ℕ) (exempt : Bool) (e : ℕ) → ((i : ℕ) → i < size → f (x + i) ≡ by_entry (pa + i) exempt e) →
+      runs_from f x (size + n) ≡ piece_before x (x + (size - 1)) (by_entry pa exempt e) (runs_from f (x + size) n)
+  one_entry pa exempt e all = by_first (by_entry pa exempt e) (λ i h. all i h ∙ by_entry_moved pa i exempt e)
 
 -- the lower of two
-pub lower-first : (a b : ℕ) → lower a b ≤ a
-lower-first a b = go (ltb b a) refl
+pub lower_first : (a b : ℕ) → lower a b ≤ a
+lower_first a b = go (ltb b a) refl
   where
     go : (t : Bool) → ltb b a ≡ t → pick t b a ≤ a
     go true e = let h : b < a = ltb-true b a e in omega (arith, h)
     go false e = omega arith
 
-pub piece-ends : (count size p : ℕ) → p < count → p * size + size ≤ count * size
-piece-ends count size p h = omega (arith, mul-le-mul_right size h, suc-mul p size)
+pub piece_ends : (count size p : ℕ) → p < count → p * size + size ≤ count * size
+piece_ends count size p h = omega (arith, mul-le-mul_right size h, suc-mul p size)
 
 -- the runs from piece p of some on
-abbrev pub onFrom : (ℕ → Reached) → ℕ → ℕ → ℕ → ℕ → ℕ → List Run
-onFrom f ipa count size n p = runsFrom f (ipa + p * size) (count * size - p * size + n)
+abbrev pub on_from : (ℕ → Reached) → ℕ → ℕ → ℕ → ℕ → ℕ → List Run
+on_from f ipa count size n p = runs_from f (ipa + p * size) (count * size - p * size + n)
 
 module _ (f : ℕ → Reached) (ipa count size n : ℕ) where
-  pub from_first : runsFrom f ipa (count * size + n) ≡ onFrom f ipa count size n 0
+  pub from_first : runs_from f ipa (count * size + n) ≡ on_from f ipa count size n 0
   from_first =
       let none : ipa ≡ ipa + 0 * size = omega (arith, zero-mul size) in
       let all : count * size + n ≡ count * size - 0 * size + n = omega (arith, zero-mul size) in
-      ap₂ (runsFrom f) none all
+      ap₂ (runs_from f) none all
 
-  pub from_last : onFrom f ipa count size n count ≡ runsFrom f (ipa + count * size) n
+  pub from_last : on_from f ipa count size n count ≡ runs_from f (ipa + count * size) n
   from_last =
       let none : count * size - count * size + n ≡ n = omega arith in
-      ap (runsFrom f (ipa + count * size)) none
+      ap (runs_from f (ipa + count * size)) none
 
   module _
       (pa : ℕ) (exempt : Bool) (entry : ℕ → ℕ) (some : 0 < size)
-      (grants : (i : ℕ) → i < count * size → f (ipa + i) ≡ byEntry (pa + i) exempt (entry (i / size)))
+      (grants : (i : ℕ) → i < count * size → f (ipa + i) ≡ by_entry (pa + i) exempt (entry (i / size)))
       (p : ℕ)
     where
       -- no entry from p on maps
-      none_from : p ≤ count → ((q : ℕ) → p ≤ q → entry q ≡ 0) → onFrom f ipa count size n p ≡ onFrom f ipa count size n count
+      none_from : p ≤ count → ((q : ℕ) → p ≤ q → entry q ≡ 0) → on_from f ipa count size n p ≡ on_from f ipa count size n count
       none_from few unmapped =
           let x = ipa + p * size in
           let left = count * size - p * size in
@@ -95,17 +95,17 @@ module _ (f : ℕ → Reached) (ipa count size n : ℕ) where
           let more : p ≤ (p * size + i) / size = omega (arith, mul-add-div_right some p i) in
           ap f at
           ∙ grants (p * size + i) (omega (arith, h))
-          ∙ ap (byEntry (pa + (p * size + i)) exempt) (unmapped ((p * size + i) / size) more))
-          ∙ ap₂ (runsFrom f) there none
+          ∙ ap (by_entry (pa + (p * size + i)) exempt) (unmapped ((p * size + i) / size) more))
+          ∙ ap₂ (runs_from f) there none
 
   -- past the map there are none
-  pub past-map :
+  pub past_map :
       (pa : ℕ) (exempt : Bool) (map : List ℕ) → 0 < size →
-      ((i : ℕ) → i < count * size → f (ipa + i) ≡ byEntry (pa + i) exempt (get_or map (i / size) 0)) →
-      onFrom f ipa count size n (lower count (length map)) ≡ onFrom f ipa count size n count
-  past-map pa exempt map some grants = go (ltb (length map) count) refl
+      ((i : ℕ) → i < count * size → f (ipa + i) ≡ by_entry (pa + i) exempt (get_or map (i / size) 0)) →
+      on_from f ipa count size n (lower count (length map)) ≡ on_from f ipa count size n count
+  past_map pa exempt map some grants = go (ltb (length map) count) refl
     where
-      go : (t : Bool) → ltb (length map) count ≡ t → onFrom f ipa count size n (pick t (length map) count) ≡ onFrom f ipa count size n count
+      go : (t : Bool) → ltb (length map) count ≡ t → on_from f ipa count size n (pick t (length map) count) ≡ on_from f ipa count size n count
       go true e =
           let h : length map < count = ltb-true (length map) count e in
           none_from pa exempt (λ q. get_or map q 0) some grants (length map) (omega (arith, h)) (λ q more. get_or-eq_default map 0 more)
@@ -113,29 +113,29 @@ module _ (f : ℕ → Reached) (ipa count size n : ℕ) where
 
   module _
       (pa : ℕ) (exempt : Bool) (entry : ℕ → ℕ) (some : 0 < size)
-      (grants : (i : ℕ) → i < count * size → f (ipa + i) ≡ byEntry (pa + i) exempt (entry (i / size)))
+      (grants : (i : ℕ) → i < count * size → f (ipa + i) ≡ by_entry (pa + i) exempt (entry (i / size)))
       (p : ℕ)
       (h : p < count)
     where
-      within : (i : ℕ) → i < size → f (ipa + p * size + i) ≡ byEntry (pa + p * size + i) exempt (entry p)
+      within : (i : ℕ) → i < size → f (ipa + p * size + i) ≡ by_entry (pa + p * size + i) exempt (entry p)
       within i few =
           let there : ipa + p * size + i ≡ ipa + (p * size + i) = omega arith in
           let none : i / size ≡ 0 = div-eq_of_lt few in
           let at : (p * size + i) / size ≡ p = omega (arith, mul-add-div_right some p i, none) in
           let output : pa + (p * size + i) ≡ pa + p * size + i = omega arith in
           ap f there
-          ∙ grants (p * size + i) (omega (arith, piece-ends count size p h, few))
-          ∙ ap₂ (λ (o k : ℕ). byEntry o exempt (entry k)) output at
+          ∙ grants (p * size + i) (omega (arith, piece_ends count size p h, few))
+          ∙ ap₂ (λ (o k : ℕ). by_entry o exempt (entry k)) output at
 
-      pub next-piece :
+      pub next_piece :
           let x = ipa + p * size in
-          onFrom f ipa count size n p
-          ≡ pieceBefore x (x + (size - 1)) (byEntry (pa + p * size) exempt (entry p)) (onFrom f ipa count size n (suc p))
-      next-piece =
+          on_from f ipa count size n p
+          ≡ piece_before x (x + (size - 1)) (by_entry (pa + p * size) exempt (entry p)) (on_from f ipa count size n (suc p))
+      next_piece =
           let x = ipa + p * size in
           let left = count * size - suc p * size + n in
-          let one_less : count * size - p * size + n ≡ size + left = omega (arith, piece-ends count size p h, suc-mul p size) in
+          let one_less : count * size - p * size + n ≡ size + left = omega (arith, piece_ends count size p h, suc-mul p size) in
           let onward : x + size ≡ ipa + suc p * size = omega (arith, suc-mul p size) in
-          ap (runsFrom f x) one_less
+          ap (runs_from f x) one_less
           ∙ one_entry f x size left some (pa + p * size) exempt (entry p) within
-          ∙ ap (λ (y : ℕ). pieceBefore x (x + (size - 1)) (byEntry (pa + p * size) exempt (entry p)) (runsFrom f y left)) onward
+          ∙ ap (λ (y : ℕ). piece_before x (x + (size - 1)) (by_entry (pa + p * size) exempt (entry p)) (runs_from f y left)) onward

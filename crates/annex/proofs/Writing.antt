@@ -6,26 +6,26 @@ use mathlib.Core.Path.{◌≡◌, refl, sym, ap, ap₂, subst, ◌∙◌}
 use native.Mathlib.Omega.{arith}
 use lib.ListN.{length, length-append}
 use lib.Seq.{paste}
-use Rattle.annex.specs.Writing.{resumed, begunLength, Written, lengthened, line_at, ProperBegun}
+use Rattle.annex.specs.Writing.{resumed, begun_length, Written, lengthened, line_at, ProperBegun}
 use Rattle.annex.specs.declared.Begun.{Begun}
 use Rattle.annex.specs.declared.Begun.TheVariants.{Run as Going, Nothing as None}
 use Rattle.fields.specs.Named.{pick}
-use Rattle.runs.proofs.Joined.{Proper, follows, one-before, two-before}
-use Rattle.runs.proofs.Page.{line-length, last-length, page-none, page-next}
-use Rattle.runs.specs.Page.{lineLength, runLine, lastLine, page_of}
-use Rattle.runs.specs.Runs.{goesOn, joined, before}
+use Rattle.runs.proofs.Joined.{Proper, follows, one_before, two_before}
+use Rattle.runs.proofs.Page.{line_length_lem, last_length, page_none, page_next}
+use Rattle.runs.specs.Page.{line_length, run_line, last_line, page_of}
+use Rattle.runs.specs.Runs.{goes_on, joined, before}
 use Rattle.runs.specs.declared.Run.{Run}
-use Rattle.text.proofs.Front.{room, length-put, put_next}
-use Rattle.text.specs.Front.{inFront, put_at}
+use Rattle.text.proofs.Front.{room, length_put, put_next}
+use Rattle.text.specs.Front.{in_front, put_at}
 
 -- the same, of equal bytes and of equal runs
-pub with-bytes : {text old rest : List ℕ} {at : ℕ} {b c : List ℕ} → b ≡ c → Written text old rest at b → Written text old rest at c
-with-bytes {text} {old} {rest} {at} e w = subst (Written text old rest at) e w
+pub with_bytes : {text old rest : List ℕ} {at : ℕ} {b c : List ℕ} → b ≡ c → Written text old rest at b → Written text old rest at c
+with_bytes {text} {old} {rest} {at} e w = subst (Written text old rest at) e w
 
-pub with-runs :
+pub with_runs :
     {text old : List ℕ} {at : ℕ} {b : List ℕ} (begun : Begun) {rs ts : List Run} → rs ≡ ts →
     Written text old (page_of (resumed begun rs)) at b → Written text old (page_of (resumed begun ts)) at b
-with-runs {text} {old} {at} {b} begun e w = subst (λ (rs : List Run). Written text old (page_of (resumed begun rs)) at b) e w
+with_runs {text} {old} {at} {b} begun e w = subst (λ (rs : List Run). Written text old (page_of (resumed begun rs)) at b) e w
 
 -- a run that has begun, and does not go on in the first of those that follow
 abbrev pub apart : Begun → List Run → List Run
@@ -39,19 +39,19 @@ Longer b s None = (rs : List Run) → resumed b (before s rs) ≡ apart b (befor
 
 pub longer : (b : Begun) (s : Run) → ProperBegun b → Proper s → Longer b s (lengthened b s)
 longer None s p q = λ rs. refl
-longer (Going r) s p q = go (goesOn r s) refl
+longer (Going r) s p q = go (goes_on r s) refl
   where
-    go : (t : Bool) → goesOn r s ≡ t → Longer (Going r) s (pick t (Going (joined r s)) None)
+    go : (t : Bool) → goes_on r s ≡ t → Longer (Going r) s (pick t (Going (joined r s)) None)
     go true e =
-        let next = (follows r s e).next in (omega (arith, p, q, next), one-before r s p q e)
-    go false e = two-before r s e
+        let next = (follows r s e).next in (omega (arith, p, q, next), one_before r s p q e)
+    go false e = two_before r s e
 
-resumed-none : (b : Begun) → resumed b [] ≡ apart b []
+resumed_none : (b : Begun) → resumed b [] ≡ apart b []
 unfolding before
-resumed-none (Going r) = refl
-resumed-none None = refl
+resumed_none (Going r) = refl
+resumed_none None = refl
 
-pub one_line : (b : Begun) → begunLength b ≤ lineLength
+pub one_line : (b : Begun) → begun_length b ≤ line_length
 one_line (Going r) = omega arith
 one_line None = omega arith
 
@@ -69,7 +69,7 @@ module _ (text old : List ℕ) where
         front = front ++ line;
         whole = w.whole ∙ sym (append_assoc front line rest);
         long = ap (λ n. n + length line) w.long ∙ sym (length-append front line);
-        kept = length-put line now at ∙ w.kept;
+        kept = length_put line now at ∙ w.kept;
         bytes = λ fits.
             let sum = ap length w.whole ∙ length-append front (line ++ rest) in
             let enough : at + length line ≤ length now = omega (arith, fits, sum, length-append line rest, w.long, w.kept) in
@@ -80,15 +80,15 @@ module _ (text old : List ℕ) where
 
   pub line_on :
       (r : Run) (rs : List Run) (now : List ℕ) (at : ℕ) → Written text old (page_of (r ∷ rs)) at now →
-      Written text old (page_of rs) (at + lineLength) (put_at (runLine r) now at)
+      Written text old (page_of rs) (at + line_length) (put_at (run_line r) now at)
   line_on r rs now at w =
-      let put = put_on (runLine r) (page_of rs) now at (subst (λ p. Written text old p at now) (page-next r rs) w) in
-      subst (λ n. Written text old (page_of rs) (at + n) (put_at (runLine r) now at)) (line-length r) put
+      let put = put_on (run_line r) (page_of rs) now at (subst (λ p. Written text old p at now) (page_next r rs) w) in
+      subst (λ n. Written text old (page_of rs) (at + n) (put_at (run_line r) now at)) (line_length_lem r) put
 
   -- the line of a run that has begun, if there is one
   pub closes :
       (b : Begun) (rs : List Run) (now : List ℕ) (at : ℕ) → Written text old (page_of (apart b rs)) at now →
-      Written text old (page_of rs) (at + begunLength b) (line_at b at now)
+      Written text old (page_of rs) (at + begun_length b) (line_at b at now)
   closes (Going r) rs now at w = line_on r rs now at w
   closes None rs now at w =
       let none : at ≡ at + 0 = omega arith in subst (λ n. Written text old (page_of rs) n now) none w
@@ -100,18 +100,18 @@ module _ (text old : List ℕ) where
   -- all runs are gone through: the line of the last, and the last line
   pub finishes :
       (b : Begun) (now : List ℕ) (at : ℕ) → Written text old (page_of (resumed b [])) at now →
-      Written text old [] (at + begunLength b + lineLength) (put_at lastLine (line_at b at now) (at + begunLength b))
+      Written text old [] (at + begun_length b + line_length) (put_at last_line (line_at b at now) (at + begun_length b))
   finishes b now at w =
       let left = line_at b at now in
-      let so_far = at + begunLength b in
-      let closed = closes b [] now at (subst (λ (rs : List Run). Written text old (page_of rs) at now) (resumed-none b) w) in
-      let last = subst (λ (t : List ℕ). Written text old t so_far left) (page-none ∙ sym (append-nil lastLine)) closed in
-      subst (λ (n : ℕ). Written text old [] (so_far + n) (put_at lastLine left so_far)) last-length
-      (put_on lastLine [] left so_far last)
+      let so_far = at + begun_length b in
+      let closed = closes b [] now at (subst (λ (rs : List Run). Written text old (page_of rs) at now) (resumed_none b) w) in
+      let last = subst (λ (t : List ℕ). Written text old t so_far left) (page_none ∙ sym (append-nil last_line)) closed in
+      subst (λ (n : ℕ). Written text old [] (so_far + n) (put_at last_line left so_far)) last_length
+      (put_on last_line [] left so_far last)
 
   -- nothing is to come
-  pub all-long : {at : ℕ} {now : List ℕ} → Written text old [] at now → at ≡ length text
-  all-long w = w.long ∙ ap length (sym (append-nil w.front) ∙ sym w.whole)
+  pub all_long : {at : ℕ} {now : List ℕ} → Written text old [] at now → at ≡ length text
+  all_long w = w.long ∙ ap length (sym (append-nil w.front) ∙ sym w.whole)
 
-  pub all-bytes : {at : ℕ} {now : List ℕ} → Written text old [] at now → length text ≤ length old → now ≡ inFront text old
-  all-bytes w fits = w.bytes fits ∙ ap (λ t. inFront t old) (sym (append-nil w.front) ∙ sym w.whole)
+  pub all_bytes : {at : ℕ} {now : List ℕ} → Written text old [] at now → length text ≤ length old → now ≡ in_front text old
+  all_bytes w fits = w.bytes fits ∙ ap (λ t. in_front t old) (sym (append-nil w.front) ∙ sym w.whole)

@@ -2,42 +2,42 @@
 use Rattle.std.specs.Prelude.{ℕ, ◌%◌, ◌≤◌, ◌<◌, Bool, true, false, ◌&&◌, List, map, ◌≡◌, eqb, leb, ltb, get_or}
 use Rattle.accepted_facts.specs.Accepted.{Within}
 use Rattle.fields.specs.Named.{pick}
-use Rattle.layout.specs.Size.{entries, page, block, boardLimit}
+use Rattle.layout.specs.Size.{entries, page, block, board_limit}
 use Rattle.layout.specs.Window.{slot}
 use Rattle.layout.specs.declared.Window.{Window}
-use Rattle.perm.specs.Perm.{permCode}
+use Rattle.perm.specs.Perm.{perm_code}
 use Rattle.perm.specs.declared.Perm.TheVariants.{Rx}
 use Rattle.reach.specs.declared.Reached.{Reached}
 use Rattle.refusal.specs.All.{All, AllPairs}
-use Rattle.window_reach.specs.Granted.{Region, region, deviceRegion, grantedBy}
+use Rattle.window_reach.specs.Granted.{Region, region, device_region, granted_by}
 
 -- the region of a window, by the window's code: image, data, super, or a device
-abbrev pub regionIn : List ℕ → List ℕ → Bool → Window → Region
-regionIn base sup exempt w =
-    pick (eqb w.code 1) (region w block (λ p. permCode Rx) false)
+abbrev pub region_in : List ℕ → List ℕ → Bool → Window → Region
+region_in base sup exempt w =
+    pick (eqb w.code 1) (region w block (λ p. perm_code Rx) false)
     (pick (eqb w.code 2) (region w page (λ p. get_or base p 0) false)
-    (pick (eqb w.code 3) (region w block (λ p. get_or sup p 0) exempt) (deviceRegion w)))
+    (pick (eqb w.code 3) (region w block (λ p. get_or sup p 0) exempt) (device_region w)))
 
-abbrev pub grantedOver : List ℕ → List ℕ → Bool → List Window → ℕ → Reached
-grantedOver base sup exempt ws x = grantedBy (map (regionIn base sup exempt) ws) x
+abbrev pub granted_over : List ℕ → List ℕ → Bool → List Window → ℕ → Reached
+granted_over base sup exempt ws x = granted_by (map (region_in base sup exempt) ws) x
 
 -- a window that is present in this slot
-abbrev pub hasSlot : ℕ → Window → Bool
-hasSlot s w = w.present && eqb (slot w) s
+abbrev pub has_slot : ℕ → Window → Bool
+has_slot s w = w.present && eqb (slot w) s
 
 -- a window's slot where it is present, not before `from` and lower than the one found so far
-abbrev pub lowerSlot : Window → ℕ → ℕ → ℕ
-lowerSlot w from next = pick (w.present && leb from (slot w) && ltb (slot w) next) (slot w) next
+abbrev pub lower_slot : Window → ℕ → ℕ → ℕ
+lower_slot w from next = pick (w.present && leb from (slot w) && ltb (slot w) next) (slot w) next
 
 -- no slot from `from` on and before the next has a window
 pub record NextSlot (ws : List Window) (from next : ℕ) : Type 0 where
   pub onward : from ≤ next
   pub most : next ≤ entries
-  pub none : (s : ℕ) → from ≤ s → s < next → All (λ w. hasSlot s w ≡ false) ws
+  pub none : (s : ℕ) → from ≤ s → s < next → All (λ w. has_slot s w ≡ false) ws
 
 -- a window that is present lies in one slot of table 1; it is whole pages or blocks, and one that no map is read for has some
 pub record Sited (w : Window) : Type 0 where
-  pub within : Within boardLimit w
+  pub within : Within board_limit w
   pub pages : w.code ≡ 2 → w.span % page ≡ 0
   pub blocks : (w.code ≡ 2 → ⊥) → w.span % block ≡ 0
   pub some : (w.code ≡ 2 → ⊥) → (w.code ≡ 3 → ⊥) → 0 < w.span

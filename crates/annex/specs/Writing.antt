@@ -3,10 +3,10 @@ use Rattle.std.specs.Prelude.{ℕ, ◌+◌, ◌≤◌, ◌<◌, List, ◌++◌, 
 use Rattle.fields.specs.Named.{pick}
 use Rattle.reach.specs.declared.Reached.{Reached}
 use Rattle.reach.specs.declared.Reached.TheVariants.{At, Nothing}
-use Rattle.runs.specs.Page.{lineLength, runLine, page_of}
-use Rattle.runs.specs.Runs.{run, goesOn, joined, before, runsFrom}
+use Rattle.runs.specs.Page.{line_length, run_line, page_of}
+use Rattle.runs.specs.Runs.{run, goes_on, joined, before, runs_from}
 use Rattle.runs.specs.declared.Run.{Run}
-use Rattle.text.specs.Front.{inFront, put_at}
+use Rattle.text.specs.Front.{in_front, put_at}
 use Rattle.annex.specs.declared.Begun.{Begun}
 use Rattle.annex.specs.declared.Begun.TheVariants.{Run as Going, Nothing as None}
 use Rattle.annex.specs.declared.Progress.{Progress}
@@ -17,9 +17,9 @@ resumed (Going r) rs = before r rs
 resumed None rs = rs
 
 -- the bytes of its line
-abbrev pub begunLength : Begun → ℕ
-begunLength (Going r) = lineLength
-begunLength None = 0
+abbrev pub begun_length : Begun → ℕ
+begun_length (Going r) = line_length
+begun_length None = 0
 
 abbrev pub beginning : Progress
 beginning = record { at = 0; begun = None }
@@ -30,7 +30,7 @@ pub record Written (text old rest : List ℕ) (at : ℕ) (now : List ℕ) : Type
   pub whole : text ≡ front ++ rest
   pub long : at ≡ length front
   pub kept : length now ≡ length old
-  pub bytes : length text ≤ length old → now ≡ inFront front old
+  pub bytes : length text ≤ length old → now ≡ in_front front old
 
 -- from before these runs to before those
 abbrev pub Onward : Progress → List ℕ → List Run → Progress → List ℕ → List Run → Type 0
@@ -42,22 +42,22 @@ Onward p bytes rs q left ts =
 abbrev pub Across : ℕ → ℕ → (ℕ → Reached) → Progress → List ℕ → Progress → List ℕ → Type 0
 Across ipa span grants p bytes q left =
     (f : ℕ → Reached) (n : ℕ) →
-    ((i : ℕ) → i < span → f (ipa + i) ≡ grants i) → Onward p bytes (runsFrom f ipa (span + n)) q left (runsFrom f (ipa + span) n)
+    ((i : ℕ) → i < span → f (ipa + i) ≡ grants i) → Onward p bytes (runs_from f ipa (span + n)) q left (runs_from f (ipa + span) n)
 
 -- a run that has begun, as one with the next where it goes on in that; else none
 abbrev pub lengthened : Begun → Run → Begun
-lengthened (Going r) s = pick (goesOn r s) (Going (joined r s)) None
+lengthened (Going r) s = pick (goes_on r s) (Going (joined r s)) None
 lengthened None s = None
 
 -- the line of a run that has begun is put, where there is room for it
 abbrev pub line_at : Begun → ℕ → List ℕ → List ℕ
-line_at (Going r) at bytes = put_at (runLine r) bytes at
+line_at (Going r) at bytes = put_at (run_line r) bytes at
 line_at None at bytes = bytes
 
 -- some bytes of one answer, before the runs that follow
-abbrev pub pieceBefore : ℕ → ℕ → Reached → List Run → List Run
-pieceBefore first last (At r) rs = before (run first last r) rs
-pieceBefore first last Nothing rs = rs
+abbrev pub piece_before : ℕ → ℕ → Reached → List Run → List Run
+piece_before first last (At r) rs = before (run first last r) rs
+piece_before first last Nothing rs = rs
 
 abbrev pub lower : ℕ → ℕ → ℕ
 lower a b = pick (ltb b a) b a

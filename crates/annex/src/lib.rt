@@ -2,17 +2,17 @@
 // windows are gone through in address order, once to count and once to write.
 ghost use Rattle.std.specs.Prelude.{ℕ, suc, ◌+◌, ◌-◌, ◌*◌, ◌/◌, ◌≤◌, ◌<◌, List, [], ◌≡◌, get_or};
 ghost use Rattle.accepted_facts.specs.Guarded.{Guarded};
-ghost use Rattle.annex.specs.Annex.{addressCount, annexPage, AnnexAnswer, annexOf};
-ghost use Rattle.annex.specs.Windows.{regionIn, grantedOver, hasSlot, lowerSlot, NextSlot, Sited, Placed};
-ghost use Rattle.annex.specs.Writing.{beginning, Written, Onward, Across, pieceBefore, ProperBegun, Sound};
-ghost use Rattle.annex.specs.Writing.{begunLength, line_at, lengthened, lower};
-ghost use Rattle.layout.specs.Size.{entries, page as pageSize, l1Span, inputLimit, boardLimit};
+ghost use Rattle.annex.specs.Annex.{address_count, annex_page, AnnexAnswer, annex_of};
+ghost use Rattle.annex.specs.Windows.{region_in, granted_over, has_slot, lower_slot, NextSlot, Sited, Placed};
+ghost use Rattle.annex.specs.Writing.{beginning, Written, Onward, Across, piece_before, ProperBegun, Sound};
+ghost use Rattle.annex.specs.Writing.{begun_length, line_at, lengthened, lower};
+ghost use Rattle.layout.specs.Size.{entries, page as pageSize, l1_span, input_limit, board_limit};
 ghost use Rattle.refusal.specs.Table.{accepted, first};
-ghost use Rattle.rows.specs.Rows.{guardRows};
-ghost use Rattle.runs.specs.Page.{lineLength, page_of};
-ghost use Rattle.runs.specs.Runs.{sameAccess, goesOn, before, runsFrom};
+ghost use Rattle.rows.specs.Rows.{guard_rows};
+ghost use Rattle.runs.specs.Page.{line_length, page_of};
+ghost use Rattle.runs.specs.Runs.{same_access, goes_on, before, runs_from};
 ghost use Rattle.runs.specs.declared.Run.{Run};
-ghost use Rattle.window_reach.specs.Granted.{byEntry, grantedIn};
+ghost use Rattle.window_reach.specs.Granted.{by_entry, granted_in};
 
 use layout::{Layout, SuperWindow, Window};
 use reach::Reached;
@@ -45,7 +45,7 @@ pub struct Progress {
 
 // Rows 2 to 14, then 27: nothing is written before all is counted.
 pub fn annex(page: &mut [u8], base: &[u8], sup: &[u8], l: Layout) -> Annexed
-    ensures { AnnexAnswer l base.now sup.now page.old (annexOf result) page.new }
+    ensures { AnnexAnswer l base.now sup.now page.old (annex_of result) page.new }
 {
     let verdict = guard::guard_maps_at(Layout::BOARD_LIMIT, base, sup, l);
     match verdict {
@@ -56,8 +56,8 @@ pub fn annex(page: &mut [u8], base: &[u8], sup: &[u8], l: Layout) -> Annexed
 
 // Row 27. In a buffer without room every line is counted, and none is put.
 fn put_page(page: &mut [u8], base: &[u8], sup: &[u8], l: Layout) -> Annexed
-    requires { first (guardRows boardLimit base.now sup.now l) ≡ accepted }
-    ensures { AnnexAnswer l base.now sup.now page.old (annexOf result) page.new }
+    requires { first (guard_rows board_limit base.now sup.now l) ≡ accepted }
+    ensures { AnnexAnswer l base.now sup.now page.old (annex_of result) page.new }
 {
     let len = write(&mut page[..0], base, sup, l);
     if page.len() < len {
@@ -69,8 +69,8 @@ fn put_page(page: &mut [u8], base: &[u8], sup: &[u8], l: Layout) -> Annexed
 
 // The page, where there is room for it; returns its length.
 fn write(page: &mut [u8], base: &[u8], sup: &[u8], l: Layout) -> usize
-    requires { Guarded boardLimit base.now sup.now l }
-    ensures { Written (annexPage l base.now sup.now) page.old [] result page.new }
+    requires { Guarded board_limit base.now sup.now l }
+    ensures { Written (annex_page l base.now sup.now) page.old [] result page.new }
 {
     // After row 8 the super window is counted.
     let SuperWindow::Counted(counted) = l.super_window() else {
@@ -93,7 +93,7 @@ fn write_windows(
     exempt: bool,
 ) -> usize
     requires { Placed ws }
-    ensures { Written (page_of (runsFrom (grantedOver base.now sup.now exempt ws) 0 addressCount))
+    ensures { Written (page_of (runs_from (granted_over base.now sup.now exempt ws) 0 address_count))
         page.old [] result page.new }
 {
     let done = write_slots(page, base, sup, ws, exempt);
@@ -112,9 +112,9 @@ fn write_slots(
     exempt: bool,
 ) -> Progress
     requires { Placed ws }
-    ensures sound { Sound result inputLimit }
-    ensures by_index { (n : ℕ) → let f = grantedOver base.now sup.now exempt ws in
-        Onward beginning page.old (runsFrom f 0 (inputLimit + n)) result page.new (runsFrom f inputLimit n) }
+    ensures sound { Sound result input_limit }
+    ensures by_index { (n : ℕ) → let f = granted_over base.now sup.now exempt ws in
+        Onward beginning page.old (runs_from f 0 (input_limit + n)) result page.new (runs_from f input_limit n) }
 {
     let begun = Begun::Nothing;
     let mut done = Progress { at: 0, begun };
@@ -139,7 +139,7 @@ fn next_slot(ws: [Window; Layout::WINDOWS], from: u64) -> u64
 }
 
 fn lower_slot(w: Window, from: u64, next: u64) -> u64
-    ensures { result ≡ lowerSlot w from next }
+    ensures { result ≡ lower_slot w from next }
 {
     if !w.present {
         return next;
@@ -165,10 +165,10 @@ fn write_slot(
 ) -> Progress
     requires placed { Placed ws }
     requires s_lt_entries { s < entries }
-    requires sound { Sound done (s * l1Span) }
-    ensures sound_2 { Sound result (suc s * l1Span) }
-    ensures by_index { (n : ℕ) → let f = grantedOver base.now sup.now exempt ws in
-        Onward done page.old (runsFrom f (s * l1Span) (l1Span + n)) result page.new (runsFrom f (suc s * l1Span) n) }
+    requires sound { Sound done (s * l1_span) }
+    ensures sound_2 { Sound result (suc s * l1_span) }
+    ensures by_index { (n : ℕ) → let f = granted_over base.now sup.now exempt ws in
+        Onward done page.old (runs_from f (s * l1_span) (l1_span + n)) result page.new (runs_from f (suc s * l1_span) n) }
 {
     for i in 0..Layout::WINDOWS {
         let w = ws[i];
@@ -180,7 +180,7 @@ fn write_slot(
 }
 
 fn has_slot(s: u64, w: Window) -> bool
-    ensures { result ≡ hasSlot s w }
+    ensures { result ≡ has_slot s w }
 {
     if !w.present {
         return false;
@@ -200,7 +200,7 @@ fn write_window(
     requires sited { Sited w }
     requires sound { Sound done w.ipa }
     ensures sound_2 { Sound result (w.ipa + w.span) }
-    ensures across { Across w.ipa w.span (λ i. grantedIn (regionIn base.now sup.now exempt w) (w.ipa + i))
+    ensures across { Across w.ipa w.span (λ i. granted_in (region_in base.now sup.now exempt w) (w.ipa + i))
         done page.old result page.new }
 {
     let code = w.code;
@@ -248,11 +248,11 @@ fn write_pieces(
     done: Progress,
 ) -> Progress
     requires page_size_le_size { pageSize ≤ size }
-    requires size_bound { ipa + count * size ≤ inputLimit }
-    requires size_bound_2 { pa + count * size ≤ boardLimit }
+    requires size_bound { ipa + count * size ≤ input_limit }
+    requires size_bound_2 { pa + count * size ≤ board_limit }
     requires sound { Sound done ipa }
     ensures sound_2 { Sound result (ipa + count * size) }
-    ensures across { Across ipa (count * size) (λ i. byEntry (pa + i) exempt (get_or map.now (i / size) 0))
+    ensures across { Across ipa (count * size) (λ i. by_entry (pa + i) exempt (get_or map.now (i / size) 0))
         done page.old result page.new }
 {
     let mut done = done;
@@ -294,10 +294,10 @@ fn write_piece(
     done: Progress,
 ) -> Progress
     requires page_size_le_size { pageSize ≤ size }
-    requires size_bound { ipa + size ≤ inputLimit }
+    requires size_bound { ipa + size ≤ input_limit }
     requires sound { Sound done ipa }
     ensures sound_2 { Sound result (ipa + size) }
-    ensures onward { (rs : List Run) → Onward done page.old (pieceBefore ipa (ipa + (size - 1)) (byEntry pa exempt entry) rs)
+    ensures onward { (rs : List Run) → Onward done page.old (piece_before ipa (ipa + (size - 1)) (by_entry pa exempt entry) rs)
         result page.new rs }
 {
     let reached = window_reach::by_entry(pa, exempt, entry);
@@ -320,10 +320,10 @@ fn write_piece(
 // A run before those that follow: it is one with the one that has begun, or that one's line is put.
 fn add(page: &mut [u8], piece: Run, done: Progress) -> Progress
     requires first_le_last { piece.first ≤ piece.last }
-    requires at_le_input_limit { done.at ≤ inputLimit }
+    requires at_le_input_limit { done.at ≤ input_limit }
     requires proper_begun { ProperBegun done.begun }
     ensures proper_begun_2 { ProperBegun result.begun }
-    ensures at_bound { result.at ≤ done.at + lineLength }
+    ensures at_bound { result.at ≤ done.at + line_length }
     ensures onward { (rs : List Run) → Onward done page.old (before piece rs) result page.new rs }
 {
     let begun = done.begun;
@@ -364,7 +364,7 @@ fn lengthened(begun: Begun, next: Run) -> Begun
 // Whether the next run begins where this one ends, in address and output, with equal access.
 fn goes_on(run: Run, next: Run) -> bool
     requires { run.first ≤ run.last }
-    ensures { result ≡ goesOn run next }
+    ensures { result ≡ goes_on run next }
 {
     if next.first <= run.last {
         return false;
@@ -382,7 +382,7 @@ fn goes_on(run: Run, next: Run) -> bool
 }
 
 fn same_access(run: Run, next: Run) -> bool
-    ensures { result ≡ sameAccess run next }
+    ensures { result ≡ same_access run next }
 {
     let perm = run.perm;
     let next_perm = next.perm;
@@ -394,8 +394,8 @@ fn same_access(run: Run, next: Run) -> bool
 
 // The line of the run that has begun, where there is room for it; returns the bytes so far.
 fn close(page: &mut [u8], at: usize, begun: Begun) -> usize
-    requires { at ≤ inputLimit }
-    ensures value { result ≡ at + begunLength begun }
+    requires { at ≤ input_limit }
+    ensures value { result ≡ at + begun_length begun }
     ensures page_after { page.new ≡ line_at begun at page.old }
 {
     let Begun::Run(run) = begun else {

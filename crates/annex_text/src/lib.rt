@@ -1,7 +1,7 @@
 // The annex page of a scene, as it is printed (request M-100).
 ghost use Rattle.std.specs.Prelude.{◌≡◌, length};
-ghost use Rattle.annex_text.specs.Text.{annexScene, annexRead};
-ghost use Rattle.annex_theorems.specs.LongestPage.{longestPage};
+ghost use Rattle.annex_text.specs.Text.{annex_scene, annex_read};
+ghost use Rattle.annex_theorems.specs.LongestPage.{longest_page};
 ghost use Rattle.printed.specs.Line.{Puts};
 ghost use Rattle.scene.specs.Scene.{scene};
 ghost use Rattle.scene_text.specs.Reading.{read_of};
@@ -18,7 +18,7 @@ pub fn print(
     sup: &[u8],
     out: &mut [u8; annex::LONGEST],
 ) -> usize
-    ensures { Puts (annexRead (read_of said (scene numbers.now base.now sup.now)))
+    ensures { Puts (annex_read (read_of said (scene numbers.now base.now sup.now)))
         out.old result out.new }
 {
     if said {
@@ -32,8 +32,8 @@ pub fn print(
 
 // No page is longer than the buffer.
 fn print_scene(numbers: &[u64; Layout::NUMBERS], base: &[u8], sup: &[u8], out: &mut [u8]) -> usize
-    requires { length out.old ≡ longestPage }
-    ensures { Puts (annexScene (scene numbers.now base.now sup.now))
+    requires { length out.old ≡ longest_page }
+    ensures { Puts (annex_scene (scene numbers.now base.now sup.now))
         out.old result out.new }
 {
     match annex::annex(out, base, sup, layout_numbers::layout_of(numbers)) {

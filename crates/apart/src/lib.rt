@@ -1,14 +1,14 @@
 // Rows 11 and 12 of document 01's table: the windows of a layout, pair by pair (hv-s2's arm64.rs, `validate`).
 ghost use Rattle.std.specs.Prelude.{◌+◌, ◌≡◌, ltb, drop};
-ghost use Rattle.refusal.specs.Outcome.{outcomeOf};
+ghost use Rattle.refusal.specs.Outcome.{outcome_of};
 ghost use Rattle.refusal.specs.Table.{first, each, pairs};
-ghost use Rattle.rows.specs.Rows.{pairRows};
+ghost use Rattle.rows.specs.Rows.{pair_rows};
 
 use layout::{Layout, Window};
 use refusal::{Refusal, Verdict};
 
 pub fn all_apart(ws: [Window; Layout::WINDOWS]) -> Verdict
-    ensures { outcomeOf result ≡ first (pairs pairRows ws) }
+    ensures { outcome_of result ≡ first (pairs pair_rows ws) }
 {
     for i in 0..Layout::WINDOWS {
         let verdict = apart_from(ws[i], ws, i + 1);
@@ -21,7 +21,7 @@ pub fn all_apart(ws: [Window; Layout::WINDOWS]) -> Verdict
 
 // A window and those from the given one on.
 fn apart_from(w: Window, ws: [Window; Layout::WINDOWS], from: usize) -> Verdict
-    ensures { outcomeOf result ≡ first (each (pairRows w) (drop from ws)) }
+    ensures { outcome_of result ≡ first (each (pair_rows w) (drop from ws)) }
 {
     for i in from..Layout::WINDOWS {
         let verdict = apart(w, ws[i]);
@@ -34,7 +34,7 @@ fn apart_from(w: Window, ws: [Window; Layout::WINDOWS], from: usize) -> Verdict
 
 // Rows 11 and 12.
 fn apart(v: Window, w: Window) -> Verdict
-    ensures { outcomeOf result ≡ first (pairRows v w) }
+    ensures { outcome_of result ≡ first (pair_rows v w) }
 {
     if !v.present {
         return Verdict::Accepted;

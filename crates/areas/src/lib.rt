@@ -1,6 +1,6 @@
 // The areas of a layout, in table 1 (hv-s2's arm64.rs).
 ghost use Rattle.std.specs.Prelude.{◌≡◌, get_or};
-ghost use Rattle.areas.specs.Area.{area, noArea, areasOf, liveAreasOf, areaSlot, areaHas};
+ghost use Rattle.areas.specs.Area.{area, no_area, areas_of, live_areas_of, area_slot, area_has};
 
 use layout::{Layout, Window};
 
@@ -14,7 +14,7 @@ pub struct Area {
 
 // Image, data, super, device; past them is none.
 fn stored_area(l: Layout, i: usize) -> Area
-    ensures { result ≡ get_or (areasOf l) i noArea }
+    ensures { result ≡ get_or (areas_of l) i no_area }
 {
     match i {
         0 => {
@@ -39,7 +39,7 @@ fn stored_area(l: Layout, i: usize) -> Area
 
 // All of them.
 pub fn areas(l: Layout) -> [Area; Layout::WINDOWS]
-    ensures { result ≡ areasOf l }
+    ensures { result ≡ areas_of l }
 {
     [
         stored_area(l, 0),
@@ -51,7 +51,7 @@ pub fn areas(l: Layout) -> [Area; Layout::WINDOWS]
 
 // The same in verification's order: data, super, image, device. One at a time, so that no array of them is made.
 pub fn live_area(l: Layout, i: usize) -> Area
-    ensures { result ≡ get_or (liveAreasOf l) i noArea }
+    ensures { result ≡ get_or (live_areas_of l) i no_area }
 {
     match i {
         0 => stored_area(l, 1),
@@ -73,14 +73,14 @@ impl Area {
     }
 
     pub fn l1_index(self) -> u64
-        ensures { result ≡ areaSlot self }
+        ensures { result ≡ area_slot self }
     {
         Layout::l1_index(self.ipa)
     }
 
     // Whether it has the word at this index of table 1.
     pub fn has(self, j: u64) -> bool
-        ensures { result ≡ areaHas self j }
+        ensures { result ≡ area_has self j }
     {
         if !self.present {
             return false;

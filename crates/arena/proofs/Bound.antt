@@ -2,9 +2,9 @@
 use Prim.Native.Nat.{◌<◌, ◌^◌}
 use mathlib.Core.Bool.{Bool, true, false}
 use native.Mathlib.Omega.{arith}
-use Rattle.desc.specs.Words.{blockWord}
+use Rattle.desc.specs.Words.{block_word}
 use Rattle.perm.specs.declared.Perm.TheVariants.{Rw}
 
-pub rw-below : (exempt : Bool) → blockWord Rw exempt < 2 ^ 55
-rw-below true = omega arith
-rw-below false = omega arith
+pub rw_below : (exempt : Bool) → block_word Rw exempt < 2 ^ 55
+rw_below true = omega arith
+rw_below false = omega arith

@@ -10,15 +10,15 @@ use Rattle.fields.specs.Named.{pick}
 use Rattle.layout.specs.Size.{entries}
 use Rattle.arena.specs.Encoded.{Run, run, one, table_of, index_of, word_at, overwrite, stored}
 
-second-false : (a b c : Bool) → b ≡ false → (a && b && c) ≡ false
-second-false true true c e = absurd (false≢true (sym e))
-second-false true false c e = refl
-second-false false b c e = refl
+second_false : (a b c : Bool) → b ≡ false → (a && b && c) ≡ false
+second_false true true c e = absurd (false≢true (sym e))
+second_false true false c e = refl
+second_false false b c e = refl
 
-third-false : (a b c : Bool) → c ≡ false → (a && b && c) ≡ false
-third-false true true c e = e
-third-false true false c e = refl
-third-false false b c e = refl
+third_false : (a b c : Bool) → c ≡ false → (a && b && c) ≡ false
+third_false true true c e = e
+third_false true false c e = refl
+third_false false b c e = refl
 
 -- no word stands in another table, before the run or past it
 module _ (t f n : ℕ) (word : ℕ → ℕ) (i : ℕ) where
@@ -28,11 +28,11 @@ module _ (t f n : ℕ) (word : ℕ → ℕ) (i : ℕ) where
 
   pub before : index_of i < f → word_at (run t f n word) i ≡ 0
   unfolding word_at
-  before h = ap (λ b. pick b (word (index_of i - f)) 0) (second-false (eqb (table_of i) t) _ _ (lt-leb f (index_of i) h))
+  before h = ap (λ b. pick b (word (index_of i - f)) 0) (second_false (eqb (table_of i) t) _ _ (lt-leb f (index_of i) h))
 
   pub past : f + n ≤ index_of i → word_at (run t f n word) i ≡ 0
   unfolding word_at
-  past h = ap (λ b. pick b (word (index_of i - f)) 0) (third-false (eqb (table_of i) t) (leb f (index_of i)) _ (le-ltb (index_of i) (f + n) h))
+  past h = ap (λ b. pick b (word (index_of i - f)) 0) (third_false (eqb (table_of i) t) (leb f (index_of i)) _ (le-ltb (index_of i) (f + n) h))
 
   pub inside : table_of i ≡ t → f ≤ index_of i → index_of i < f + n → word_at (run t f n word) i ≡ word (index_of i - f)
   unfolding word_at
@@ -40,24 +40,24 @@ module _ (t f n : ℕ) (word : ℕ → ℕ) (i : ℕ) where
 
 -- word j of the table with k tables before it
 module _ (k j : ℕ) (h : j < entries) where
-  pub table-of : table_of (k * entries + j) ≡ 1 + k
-  table-of = omega (arith, h)
+  pub table_of_lem : table_of (k * entries + j) ≡ 1 + k
+  table_of_lem = omega (arith, h)
 
-  pub index-of : index_of (k * entries + j) ≡ j
-  index-of = omega (arith, h)
+  pub index_of_lem : index_of (k * entries + j) ≡ j
+  index_of_lem = omega (arith, h)
 
 -- a run's word at an index of its table
 module _ (j : ℕ) (h : j < entries) (k : ℕ) (r : Run) (t : r.table ≡ 1 + k) where
-  pub run-before : j < r.from → word_at r (k * entries + j) ≡ 0
-  run-before b = before r.table r.from r.count r.word (k * entries + j) (omega (arith, b, index-of k j h))
+  pub run_before : j < r.from → word_at r (k * entries + j) ≡ 0
+  run_before b = before r.table r.from r.count r.word (k * entries + j) (omega (arith, b, index_of_lem k j h))
 
   pub run_past : r.from + r.count ≤ j → word_at r (k * entries + j) ≡ 0
-  run_past b = past r.table r.from r.count r.word (k * entries + j) (omega (arith, b, index-of k j h))
+  run_past b = past r.table r.from r.count r.word (k * entries + j) (omega (arith, b, index_of_lem k j h))
 
   pub run_inside : r.from ≤ j → j < r.from + r.count → word_at r (k * entries + j) ≡ r.word (j - r.from)
   run_inside lo hi =
-      let e = index-of k j h in
-      inside r.table r.from r.count r.word (k * entries + j) (table-of k j h ∙ sym t) (omega (arith, lo, e))
+      let e = index_of_lem k j h in
+      inside r.table r.from r.count r.word (k * entries + j) (table_of_lem k j h ∙ sym t) (omega (arith, lo, e))
       (omega (arith, hi, e))
       ∙ ap (λ (n : ℕ). r.word (n - r.from)) e
 
@@ -71,8 +71,8 @@ module _ (t f n : ℕ) (word : ℕ → ℕ) (i old : ℕ) where
   none : word_at (run t f n word) i ≡ 0 → word_at (one t (f + n) (word n)) i ≡ 0 → word_at (run t f (n + 1) word) i ≡ 0 → Grows
   none a b c = rw (a, b, c)
 
-  first-has : table_of i ≡ t → f ≤ index_of i → index_of i < f + n → Grows
-  first-has e lo hi =
+  first_has : table_of i ≡ t → f ≤ index_of i → index_of i < f + n → Grows
+  first_has e lo hi =
       rw (
         inside t f n word i e lo hi,
         before t (f + n) 1 (λ p. word n) i hi,
@@ -92,7 +92,7 @@ module _ (t f n : ℕ) (word : ℕ → ℕ) (i old : ℕ) where
       )
 
   pub grows : Grows
-  grows = by-table (eqb (table_of i) t) refl
+  grows = by_table (eqb (table_of i) t) refl
     where
       by_place :
           table_of i ≡ t → (a b c : Bool) →
@@ -100,7 +100,7 @@ module _ (t f n : ℕ) (word : ℕ → ℕ) (i old : ℕ) where
       by_place e false b c p q r =
           let h = leb-false f (index_of i) p in
           none (before t f n word i h) (before t (f + n) 1 (λ p. word n) i (omega (arith, h))) (before t f (n + 1) word i h)
-      by_place e true true c p q r = first-has e (leb-true _ _ p) (ltb-true _ _ q)
+      by_place e true true c p q r = first_has e (leb-true _ _ p) (ltb-true _ _ q)
       by_place e true false true p q r =
           let h = ltb-true (f + n) (index_of i) r in
           none (past t f n word i (omega (arith, h))) (past t (f + n) 1 (λ p. word n) i (omega (arith, h)))
@@ -108,15 +108,15 @@ module _ (t f n : ℕ) (word : ℕ → ℕ) (i old : ℕ) where
       by_place e true false false p q r =
           let h = ltb-false (index_of i) (f + n) q in let k = ltb-false (f + n) (index_of i) r in last_has e (omega (arith, h, k))
 
-      by-table : (b : Bool) → eqb (table_of i) t ≡ b → Grows
-      by-table true e = by_place (eqb-true _ _ e) (leb f (index_of i)) (ltb (index_of i) (f + n)) (ltb (f + n) (index_of i)) refl refl refl
-      by-table false e = none (other t f n word i e) (other t (f + n) 1 (λ p. word n) i e) (other t f (n + 1) word i e)
+      by_table : (b : Bool) → eqb (table_of i) t ≡ b → Grows
+      by_table true e = by_place (eqb-true _ _ e) (leb f (index_of i)) (ltb (index_of i) (f + n)) (ltb (f + n) (index_of i)) refl refl refl
+      by_table false e = none (other t f n word i e) (other t (f + n) 1 (λ p. word n) i e) (other t f (n + 1) word i e)
 
 -- runs in order: the first list, then the second
-pub stored-append : (rs ss : List Run) (i old : ℕ) → stored (rs ++ ss) i old ≡ stored ss i (stored rs i old)
+pub stored_append : (rs ss : List Run) (i old : ℕ) → stored (rs ++ ss) i old ≡ stored ss i (stored rs i old)
 unfolding stored
-stored-append [] ss i old = refl
-stored-append (r ∷ rs) ss i old = stored-append rs ss i (overwrite old (word_at r i))
+stored_append [] ss i old = refl
+stored_append (r ∷ rs) ss i old = stored_append rs ss i (overwrite old (word_at r i))
 
 pub no_word : (t j w i : ℕ) → w ≡ 0 → word_at (one t j w) i ≡ 0
 unfolding word_at
@@ -140,7 +140,7 @@ module _
     (i : ℕ)
   where
     pub resized : word_at (run t f n word) i ≡ word_at (run t f m word) i
-    resized = by-table (eqb (table_of i) t) refl
+    resized = by_table (eqb (table_of i) t) refl
       where
         by_place :
             table_of i ≡ t → f ≤ index_of i → (a b : Bool) →
@@ -161,12 +161,12 @@ module _
             ∙ sym (inside t f m word i e lo k)
         by_place e lo false false p q = past t f n word i (ltb-false _ _ p) ∙ sym (past t f m word i (ltb-false _ _ q))
 
-        by-start : table_of i ≡ t → (b : Bool) → leb f (index_of i) ≡ b → word_at (run t f n word) i ≡ word_at (run t f m word) i
-        by-start e true p =
+        by_start : table_of i ≡ t → (b : Bool) → leb f (index_of i) ≡ b → word_at (run t f n word) i ≡ word_at (run t f m word) i
+        by_start e true p =
             by_place e (leb-true f (index_of i) p) (ltb (index_of i) (f + n)) (ltb (index_of i) (f + m)) refl refl
-        by-start e false p =
+        by_start e false p =
             let h = leb-false f (index_of i) p in before t f n word i h ∙ sym (before t f m word i h)
 
-        by-table : (b : Bool) → eqb (table_of i) t ≡ b → word_at (run t f n word) i ≡ word_at (run t f m word) i
-        by-table true e = by-start (eqb-true _ _ e) (leb f (index_of i)) refl
-        by-table false e = other t f n word i e ∙ sym (other t f m word i e)
+        by_table : (b : Bool) → eqb (table_of i) t ≡ b → word_at (run t f n word) i ≡ word_at (run t f m word) i
+        by_table true e = by_start (eqb-true _ _ e) (leb f (index_of i)) refl
+        by_table false e = other t f n word i e ∙ sym (other t f m word i e)

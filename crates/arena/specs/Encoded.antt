@@ -1,12 +1,12 @@
 -- The arena that encoding leaves, by document 01 ("Arena"): tables 4 to 6 are cleared, and runs of words are stored.
 use Rattle.std.specs.Prelude.{ℕ, ◌+◌, ◌-◌, ◌*◌, ◌/◌, ◌%◌, Bool, ◌&&◌, eqb, leb, ltb, get_or}
 use mathlib.Core.List.{List, [], ◌∷◌, ◌++◌, map, foldl}
-use Rattle.areas.specs.Area.{areasOf, areaSlot}
+use Rattle.areas.specs.Area.{areas_of, area_slot}
 use Rattle.areas.specs.declared.Area.{Area}
-use Rattle.arena.specs.Word.{tableTo, pageTo, blockTo, imageTo, deviceTo, leafFor}
+use Rattle.arena.specs.Word.{table_to, page_to, block_to, image_to, device_to, leaf_for}
 use Rattle.fields.specs.Named.{pick}
 use Rattle.layout.specs.Size.{entries, page, block}
-use Rattle.layout.specs.Window.{imageWindow, deviceWindow, l2Slot}
+use Rattle.layout.specs.Window.{image_window, device_window, l2_slot}
 use Rattle.layout.specs.declared.Layout.{Layout}
 use Rattle.layout.specs.declared.Window.{Window}
 
@@ -25,8 +25,8 @@ abbrev pub one : ℕ → ℕ → ℕ → Run
 one t j w = run t j 1 (λ p. w)
 
 -- a run that is there or not: then it has no word
-abbrev pub presentRun : Bool → Run → Run
-presentRun there r = run r.table r.from (pick there r.count 0) r.word
+abbrev pub present_run : Bool → Run → Run
+present_run there r = run r.table r.from (pick there r.count 0) r.word
 
 -- word i of the arena stands in one of its tables, at an index
 abbrev pub table_of : ℕ → ℕ
@@ -50,50 +50,50 @@ unfoldable pub stored : List Run → ℕ → ℕ → ℕ
 stored rs i old = foldl (λ w r. overwrite w (word_at r i)) old rs
 
 -- page p by entry p of the base map, block p by entry p of the super map, and block p of a device
-abbrev pub pageAt : ℕ → List ℕ → ℕ → ℕ
-pageAt pa base p = leafFor (get_or base p 0) (pageTo (pa + p * page))
+abbrev pub page_at : ℕ → List ℕ → ℕ → ℕ
+page_at pa base p = leaf_for (get_or base p 0) (page_to (pa + p * page))
 
-abbrev pub superAt : ℕ → Bool → List ℕ → ℕ → ℕ
-superAt pa exempt sup p = leafFor (get_or sup p 0) (blockTo (pa + p * block) exempt)
+abbrev pub super_at : ℕ → Bool → List ℕ → ℕ → ℕ
+super_at pa exempt sup p = leaf_for (get_or sup p 0) (block_to (pa + p * block) exempt)
 
-abbrev pub deviceAt : ℕ → ℕ → ℕ
-deviceAt base p = deviceTo (base + p * block)
+abbrev pub device_at : ℕ → ℕ → ℕ
+device_at base p = device_to (base + p * block)
 
-abbrev pub pageRun : Layout → List ℕ → Run
-pageRun l base = run 4 0 entries (pageAt l.data_pa_base base)
+abbrev pub page_run : Layout → List ℕ → Run
+page_run l base = run 4 0 entries (page_at l.data_pa_base base)
 
 -- a super stands at its own slot, not at its frame number
-abbrev pub superRun : Layout → List ℕ → Run
-superRun l sup =
-    run 5 (l2Slot l.sup_ipa_base) l.sup_frames (superAt l.sup_pa_base l.sup_wx_exempt sup)
+abbrev pub super_run : Layout → List ℕ → Run
+super_run l sup =
+    run 5 (l2_slot l.sup_ipa_base) l.sup_frames (super_at l.sup_pa_base l.sup_wx_exempt sup)
 
 -- a device that is absent has no length
-abbrev pub deviceRun : ℕ → Window → Run
-deviceRun t w = run t (l2Slot w.ipa) (w.span / block) (deviceAt w.ipa)
+abbrev pub device_run : ℕ → Window → Run
+device_run t w = run t (l2_slot w.ipa) (w.span / block) (device_at w.ipa)
 
-abbrev pub imageRun : Layout → Run
-imageRun l =
-    let image = imageWindow l.guest_image_pa in
-    presentRun image.present (one 2 (l2Slot image.ipa) (imageTo image.pa))
+abbrev pub image_run : Layout → Run
+image_run l =
+    let image = image_window l.guest_image_pa in
+    present_run image.present (one 2 (l2_slot image.ipa) (image_to image.pa))
 
 -- the table of data's pages
-abbrev pub pageTableRun : Layout → Run
-pageTableRun l = one 3 (l2Slot l.data_ipa_base) (tableTo l.l3_data_pa)
+abbrev pub page_table_run : Layout → Run
+page_table_run l = one 3 (l2_slot l.data_ipa_base) (table_to l.l3_data_pa)
 
 -- a window that is present has a level 1 word, which names its table
-abbrev pub areaRun : Area → Run
-areaRun a = presentRun a.present (one 1 (areaSlot a) (tableTo a.table))
+abbrev pub area_run : Area → Run
+area_run a = present_run a.present (one 1 (area_slot a) (table_to a.table))
 
 -- tables 1 to 3: a word for each area, the image's block, and the table of data's pages
-unfoldable pub upperRuns : Layout → List Run
-upperRuns l = map areaRun (areasOf l) ++ (imageRun l ∷ pageTableRun l ∷ [])
+unfoldable pub upper_runs : Layout → List Run
+upper_runs l = map area_run (areas_of l) ++ (image_run l ∷ page_table_run l ∷ [])
 
 -- table 4 and on: the leaves of pages, supers and devices
-unfoldable pub leafRuns : Layout → List ℕ → List ℕ → List Run
-leafRuns l base sup = pageRun l base ∷ superRun l sup ∷ deviceRun 6 (deviceWindow l) ∷ []
+unfoldable pub leaf_runs : Layout → List ℕ → List ℕ → List Run
+leaf_runs l base sup = page_run l base ∷ super_run l sup ∷ device_run 6 (device_window l) ∷ []
 
-abbrev pub runsOf : Layout → List ℕ → List ℕ → List Run
-runsOf l base sup = upperRuns l ++ leafRuns l base sup
+abbrev pub runs_of : Layout → List ℕ → List ℕ → List Run
+runs_of l base sup = upper_runs l ++ leaf_runs l base sup
 
 -- tables 4 and on alone are cleared
 abbrev pub cleared : ℕ → ℕ → ℕ
@@ -101,7 +101,7 @@ cleared i old = pick (ltb 3 (table_of i)) 0 old
 
 -- word i after encoding, where `old` stood
 unfoldable pub encoded : Layout → List ℕ → List ℕ → ℕ → ℕ → ℕ
-encoded l base sup i old = stored (runsOf l base sup) i (cleared i old)
+encoded l base sup i old = stored (runs_of l base sup) i (cleared i old)
 
 -- what encoding into zeros leaves there
 abbrev pub target : Layout → List ℕ → List ℕ → ℕ → ℕ

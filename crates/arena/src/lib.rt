@@ -1,7 +1,7 @@
 // The words of the arena: descriptors with their address joined (hv-s2's arm64.rs).
 ghost use Rattle.std.specs.Prelude.{◌+◌, ◌*◌, ◌≡◌};
-ghost use Rattle.arena.specs.Word.{tableTo, pageTo, blockTo, imageTo, deviceTo, leafFor};
-ghost use Rattle.desc.specs.Descriptor.{pageAddress, blockAddress};
+ghost use Rattle.arena.specs.Word.{table_to, page_to, block_to, image_to, device_to, leaf_for};
+ghost use Rattle.desc.specs.Descriptor.{page_address, block_address};
 ghost use Rattle.layout.specs.Size.{page, block};
 
 use layout::Layout;
@@ -9,14 +9,14 @@ use perm::Perm;
 
 // What names a table.
 pub fn table_word(pa: u64) -> u64
-    ensures { result ≡ tableTo pa }
+    ensures { result ≡ table_to pa }
 {
     page_address(pa, 0) + desc::table_attrs()
 }
 
 // The leaf of the m-th page from a base on, by its entry in the map. Base pages are never exempt.
 pub fn page_word(base: u64, m: u32, entry: u8) -> u64
-    ensures { result ≡ leafFor entry (pageTo (base + m * page)) }
+    ensures { result ≡ leaf_for entry (page_to (base + m * page)) }
 {
     match entry {
         1 => page_address(base, m) + desc::page_leaf_attrs(Perm::Ro),
@@ -28,7 +28,7 @@ pub fn page_word(base: u64, m: u32, entry: u8) -> u64
 
 // The leaf of the m-th block from a base on, by its entry in the map.
 pub fn block_word(base: u64, m: u32, exempt: bool, entry: u8) -> u64
-    ensures { result ≡ leafFor entry (blockTo (base + m * block) exempt) }
+    ensures { result ≡ leaf_for entry (block_to (base + m * block) exempt) }
 {
     match entry {
         1 => block_address(base, m) + desc::block_leaf_attrs(Perm::Ro, exempt),
@@ -39,28 +39,28 @@ pub fn block_word(base: u64, m: u32, exempt: bool, entry: u8) -> u64
 }
 
 pub fn image_word(pa: u64) -> u64
-    ensures { result ≡ imageTo pa }
+    ensures { result ≡ image_to pa }
 {
     block_address(pa, 0) + desc::image_leaf_attrs()
 }
 
 // The leaf of the m-th block of a device window.
 pub fn device_word(base: u64, m: u32) -> u64
-    ensures { result ≡ deviceTo (base + m * block) }
+    ensures { result ≡ device_to (base + m * block) }
 {
     block_address(base, m) + desc::device_leaf_attrs()
 }
 
 // Bits 47:12 of the m-th page's address.
 pub fn page_address(base: u64, m: u32) -> u64
-    ensures { result ≡ pageAddress (base + m * page) }
+    ensures { result ≡ page_address (base + m * page) }
 {
     (base / Layout::PAGE_SIZE + m as u64) % 0x10_0000_0000 * Layout::PAGE_SIZE
 }
 
 // Bits 47:21 of the m-th block's address.
 pub fn block_address(base: u64, m: u32) -> u64
-    ensures { result ≡ blockAddress (base + m * block) }
+    ensures { result ≡ block_address (base + m * block) }
 {
     (base / Layout::BLOCK_SIZE + m as u64) % 0x800_0000 * Layout::BLOCK_SIZE
 }

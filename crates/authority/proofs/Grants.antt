@@ -4,26 +4,26 @@ use mathlib.Core.Bool.{Bool, true, false, ◌&&◌, ◌||◌}
 use mathlib.Core.List.{List, [], ◌∷◌, ◌++◌}
 use mathlib.Core.Path.{◌≡◌, refl, ap, ◌∙◌}
 use lib.Dec.{eqb}
-use Rattle.authority.specs.Authority.{hasGrant}
+use Rattle.authority.specs.Authority.{has_grant}
 use Rattle.grant.specs.Grant.{covers}
 use Rattle.grant.specs.declared.Grant.{Grant}
 
-or-false : (a : Bool) → (a || false) ≡ a
-or-false true = refl
-or-false false = refl
+or_false : (a : Bool) → (a || false) ≡ a
+or_false true = refl
+or_false false = refl
 
 pub or_assoc : (a b c : Bool) → (a || (b || c)) ≡ ((a || b) || c)
 or_assoc true b c = refl
 or_assoc false b c = refl
 
-pub granted-more :
+pub granted_more :
     (gs : List Grant) (g : Grant) (owner dom m : ℕ) (w : Bool) →
-    hasGrant (gs ++ g ∷ []) owner dom m w ≡ (hasGrant gs owner dom m w || covers owner dom m w g)
-unfolding hasGrant
-granted-more [] g owner dom m w = or-false (covers owner dom m w g)
-granted-more (x ∷ gs) g owner dom m w =
-    ap (λ b. covers owner dom m w x || b) (granted-more gs g owner dom m w)
-    ∙ or_assoc (covers owner dom m w x) (hasGrant gs owner dom m w) (covers owner dom m w g)
+    has_grant (gs ++ g ∷ []) owner dom m w ≡ (has_grant gs owner dom m w || covers owner dom m w g)
+unfolding has_grant
+granted_more [] g owner dom m w = or_false (covers owner dom m w g)
+granted_more (x ∷ gs) g owner dom m w =
+    ap (λ b. covers owner dom m w x || b) (granted_more gs g owner dom m w)
+    ∙ or_assoc (covers owner dom m w x) (has_grant gs owner dom m w) (covers owner dom m w g)
 
 -- a grant that covers writing covers reading
 weaker : (a b c w : Bool) → (a && b && c && (false || w)) ≡ true → (a && b && c && (true || w)) ≡ true
@@ -40,8 +40,8 @@ either false b false b' f g e = g e
 
 pub reading :
     (grants : List Grant) (owner dom m : ℕ) →
-    hasGrant grants owner dom m true ≡ true → hasGrant grants owner dom m false ≡ true
-unfolding hasGrant covers
+    has_grant grants owner dom m true ≡ true → has_grant grants owner dom m false ≡ true
+unfolding has_grant covers
 reading [] owner dom m e = e
 reading (g ∷ gs) owner dom m e =
     either _ _ _ _

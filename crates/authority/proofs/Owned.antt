@@ -6,15 +6,15 @@ use mathlib.Core.Logic.{◌≢◌}
 use mathlib.Core.Path.{◌≡◌, refl, sym, ap, ◌∙◌}
 use native.Mathlib.Omega.{arith}
 use lib.Dec.{eqb}
-use Rattle.authority.specs.Authority.{hasGrant, reaches, ownerRows, reachRows}
-use Rattle.authority.specs.Widest.{widest, widestAt, asked}
+use Rattle.authority.specs.Authority.{has_grant, reaches, owner_rows, reach_rows}
+use Rattle.authority.specs.Widest.{widest, widest_at, asked}
 use Rattle.authority.proofs.Grants.{reading}
 use Rattle.fields.proofs.Named.{has_code}
 use Rattle.grant.specs.declared.Grant.{Grant}
-use Rattle.p2m.specs.Frame.{ownerOf}
+use Rattle.p2m.specs.Frame.{owner_of}
 use Rattle.p2m.specs.declared.Owner.{Owner}
 use Rattle.p2m.specs.declared.Owner.TheVariants.{Domain, Nobody}
-use Rattle.perm.specs.Perm.{permCode, permWrites, entryNamed}
+use Rattle.perm.specs.Perm.{perm_code, perm_writes, entry_named}
 use Rattle.perm.specs.declared.Entry.TheVariants.{Mapped, Unmapped}
 use Rattle.perm.specs.declared.Entry.{Entry}
 use Rattle.perm.specs.declared.Perm.TheVariants.{Ro, Rw, Rx}
@@ -38,36 +38,36 @@ module _ (grants : List Grant) (dom m : ℕ) (p : Perm) where
   reads true Nobody e = e
   reads true (Domain o) e = go (eqb o dom) e
     where
-      go : (own : Bool) → (own || hasGrant grants o dom m true) ≡ true → (own || hasGrant grants o dom m false) ≡ true
+      go : (own : Bool) → (own || has_grant grants o dom m true) ≡ true → (own || has_grant grants o dom m false) ≡ true
       go true e = refl
       go false e = reading grants o dom m e
 
-  pub allowed : (o : Owner) → reaches grants dom m (permWrites p) o ≡ true → ownerRows grants dom m (Mapped p) o ≡ []
-  unfolding ownerRows
+  pub allowed : (o : Owner) → reaches grants dom m (perm_writes p) o ≡ true → owner_rows grants dom m (Mapped p) o ≡ []
+  unfolding owner_rows
   allowed (Domain o) r =
-      quiet (permWrites p) (reaches grants dom m false (Domain o)) (reaches grants dom m true (Domain o))
+      quiet (perm_writes p) (reaches grants dom m false (Domain o)) (reaches grants dom m true (Domain o))
       (UnauthorizedMapping dom m (Domain o) p) (WriteEscalation dom m o)
-      (reads (permWrites p) (Domain o) r)
+      (reads (perm_writes p) (Domain o) r)
       (λ w. sym (ap (λ x. reaches grants dom m x (Domain o)) w) ∙ r)
   allowed Nobody r = absurd (false≢true r)
 
   pub denied :
       (o : Owner) → reaches grants dom m false o ≡ false →
-      first (ownerRows grants dom m (Mapped p) o) ≡ refused (row_of (UnauthorizedMapping dom m o p))
-  unfolding first ownerRows
+      first (owner_rows grants dom m (Mapped p) o) ≡ refused (row_of (UnauthorizedMapping dom m o p))
+  unfolding first owner_rows
   denied o r = rw r
 
   pub escalated :
-      (o : ℕ) → permWrites p ≡ true → reaches grants dom m false (Domain o) ≡ true →
+      (o : ℕ) → perm_writes p ≡ true → reaches grants dom m false (Domain o) ≡ true →
       reaches grants dom m true (Domain o) ≡ false →
-      first (ownerRows grants dom m (Mapped p) (Domain o)) ≡ refused (row_of (WriteEscalation dom m o))
-  unfolding first ownerRows
+      first (owner_rows grants dom m (Mapped p) (Domain o)) ≡ refused (row_of (WriteEscalation dom m o))
+  unfolding first owner_rows
   escalated o w r x = rw (w, r, x)
 
 -- a mapped entry asks for writing or for reading
 
-code_of : (byte : ℕ) (p : Perm) → entryNamed byte ≡ Mapped p → byte ≡ permCode p
-code_of byte p e = has_code permCode (Ro ∷ Rw ∷ Rx ∷ []) Mapped Unmapped byte p one none e
+code_of : (byte : ℕ) (p : Perm) → entry_named byte ≡ Mapped p → byte ≡ perm_code p
+code_of byte p e = has_code perm_code (Ro ∷ Rw ∷ Rx ∷ []) Mapped Unmapped byte p one none e
   where
     one : (x y : Perm) → Mapped x ≡ Mapped y → x ≡ y
     one x y e = cc
@@ -75,7 +75,7 @@ code_of byte p e = has_code permCode (Ro ∷ Rw ∷ Rx ∷ []) Mapped Unmapped b
     none : Unmapped ≡ Mapped p → ⊥
     none e = let z : ◌≡◌ {A = ℕ} 0 1 = cc in omega arith
 
-asked_by : (p : Perm) → asked (permCode p) ≡ widest true (permWrites p)
+asked_by : (p : Perm) → asked (perm_code p) ≡ widest true (perm_writes p)
 asked_by Ro = refl
 asked_by Rw = refl
 asked_by Rx = refl
@@ -83,29 +83,29 @@ asked_by Rx = refl
 -- the rows of a frame are those of its entry and its owner
 
 module _ (frames : List (List ℕ)) (grants : List Grant) (dom m byte : ℕ) where
-  pub unmapped : entryNamed byte ≡ Unmapped → reachRows frames grants dom m byte ≡ []
-  unfolding reachRows ownerRows
+  pub unmapped : entry_named byte ≡ Unmapped → reach_rows frames grants dom m byte ≡ []
+  unfolding reach_rows owner_rows
   unmapped e = rw e
 
-  module _ (p : Perm) (mapped : entryNamed byte ≡ Mapped p) where
+  module _ (p : Perm) (mapped : entry_named byte ≡ Mapped p) where
     pub of_owner :
-        (o : Owner) → ownerOf frames m ≡ o → reachRows frames grants dom m byte ≡ ownerRows grants dom m (Mapped p) o
-    unfolding reachRows
+        (o : Owner) → owner_of frames m ≡ o → reach_rows frames grants dom m byte ≡ owner_rows grants dom m (Mapped p) o
+    unfolding reach_rows
     of_owner o e = rw (mapped, e)
 
-    asks : asked byte ≡ widest true (permWrites p)
+    asks : asked byte ≡ widest true (perm_writes p)
     asks = ap asked (code_of byte p mapped) ∙ asked_by p
 
     pub nobody :
-        ownerOf frames m ≡ Nobody →
-        first (reachRows frames grants dom m byte) ≡ refused (row_of (UnauthorizedMapping dom m Nobody p))
+        owner_of frames m ≡ Nobody →
+        first (reach_rows frames grants dom m byte) ≡ refused (row_of (UnauthorizedMapping dom m Nobody p))
     nobody e = ap first (of_owner Nobody e) ∙ denied grants dom m p Nobody refl
 
-    module _ (o : ℕ) (owner : ownerOf frames m ≡ Domain o) where
+    module _ (o : ℕ) (owner : owner_of frames m ≡ Domain o) where
       pub nothing :
-          widestAt frames grants dom m ≡ 0 →
-          first (reachRows frames grants dom m byte) ≡ refused (row_of (UnauthorizedMapping dom m (Domain o) p))
-      unfolding widestAt
+          widest_at frames grants dom m ≡ 0 →
+          first (reach_rows frames grants dom m byte) ≡ refused (row_of (UnauthorizedMapping dom m (Domain o) p))
+      unfolding widest_at
       nothing e =
           ap first (of_owner (Domain o) owner)
           ∙ denied grants dom m p (Domain o)
@@ -116,21 +116,21 @@ module _ (frames : List (List ℕ)) (grants : List Grant) (dom m byte : ℕ) whe
           go true true e = absurd (omega (arith, e))
           go true false e = absurd (omega (arith, e))
 
-      pub reading-alone :
-          widestAt frames grants dom m ≢ 0 → widestAt frames grants dom m < asked byte →
-          first (reachRows frames grants dom m byte) ≡ refused (row_of (WriteEscalation dom m o))
-      unfolding widestAt
-      reading-alone some less =
+      pub reading_alone :
+          widest_at frames grants dom m ≢ 0 → widest_at frames grants dom m < asked byte →
+          first (reach_rows frames grants dom m byte) ≡ refused (row_of (WriteEscalation dom m o))
+      unfolding widest_at
+      reading_alone some less =
           ap first (of_owner (Domain o) owner)
-          ∙ go (permWrites p) refl (reaches grants dom m false (Domain o)) refl (reaches grants dom m true (Domain o)) refl
+          ∙ go (perm_writes p) refl (reaches grants dom m false (Domain o)) refl (reaches grants dom m true (Domain o)) refl
           (rw owner at some) (rw (owner, asks) at less)
         where
           go :
-              (w : Bool) → permWrites p ≡ w →
+              (w : Bool) → perm_writes p ≡ w →
               (r : Bool) → reaches grants dom m false (Domain o) ≡ r →
               (x : Bool) → reaches grants dom m true (Domain o) ≡ x →
               widest r x ≢ 0 → widest r x < widest true w →
-              first (ownerRows grants dom m (Mapped p) (Domain o)) ≡ refused (row_of (WriteEscalation dom m o))
+              first (owner_rows grants dom m (Mapped p) (Domain o)) ≡ refused (row_of (WriteEscalation dom m o))
           go true a true b false c some less = escalated grants dom m p o a b c
           go w a false b false c some less = absurd (some refl)
           go true a r b true c some less = absurd (omega (arith, less))
@@ -138,9 +138,9 @@ module _ (frames : List (List ℕ)) (grants : List Grant) (dom m byte : ℕ) whe
           go false a true b false c some less = absurd (omega (arith, less))
 
   -- an entry that is no wider is let by
-  pub within : asked byte ≤ widestAt frames grants dom m → reachRows frames grants dom m byte ≡ []
-  unfolding widestAt
-  within enough = by-entry (entryNamed byte) refl
+  pub within : asked byte ≤ widest_at frames grants dom m → reach_rows frames grants dom m byte ≡ []
+  unfolding widest_at
+  within enough = by_entry_lem (entry_named byte) refl
     where
       writable : (r x : Bool) → widest true true ≤ widest r x → x ≡ true
       writable r true h = refl
@@ -160,8 +160,8 @@ module _ (frames : List (List ℕ)) (grants : List Grant) (dom m byte : ℕ) whe
       reached p false o h =
           readable (reaches grants dom m false o) (reaches grants dom m true o) (reads grants dom m p true o) h
 
-      by-entry : (e : Entry) → entryNamed byte ≡ e → reachRows frames grants dom m byte ≡ []
-      by-entry (Mapped p) e =
-          let o = ownerOf frames m in
-          of_owner p e o refl ∙ allowed grants dom m p o (reached p (permWrites p) o (rw (asks p e) at enough))
-      by-entry Unmapped e = unmapped e
+      by_entry_lem : (e : Entry) → entry_named byte ≡ e → reach_rows frames grants dom m byte ≡ []
+      by_entry_lem (Mapped p) e =
+          let o = owner_of frames m in
+          of_owner p e o refl ∙ allowed grants dom m p o (reached p (perm_writes p) o (rw (asks p e) at enough))
+      by_entry_lem Unmapped e = unmapped e

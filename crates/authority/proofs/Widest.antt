@@ -7,19 +7,19 @@ use mathlib.Core.Path.{◌≡◌, refl, sym, ap, ◌∙◌}
 use lib.Dec.{eqb}
 use lib.ListN.{length, get_or, get_or-eq_default}
 use borrow.Author.Tests.{ne_eqb}
-use Rattle.authority.specs.Authority.{hasGrant, reaches}
-use Rattle.authority.specs.Widest.{widest, widestAt, covered, widestBy}
-use Rattle.authority.proofs.Grants.{or_assoc, granted-more}
+use Rattle.authority.specs.Authority.{has_grant, reaches}
+use Rattle.authority.specs.Widest.{widest, widest_at, covered, widest_by}
+use Rattle.authority.proofs.Grants.{or_assoc, granted_more}
 use Rattle.edge.specs.Edge.{owned_by}
-use Rattle.fields.proofs.Default.{getD-inside}
+use Rattle.fields.proofs.Default.{get_d_inside}
 use Rattle.fields.specs.Named.{pick}
 use Rattle.grant.specs.Grant.{covers}
 use Rattle.grant.specs.declared.Grant.{Grant}
 use Rattle.map_entries.specs.Larger.{larger}
-use Rattle.p2m.specs.Frame.{noFrame, ownerNamed, ownerOf}
+use Rattle.p2m.specs.Frame.{no_frame, owner_named, owner_of}
 use Rattle.p2m.specs.declared.Owner.{Owner}
 use Rattle.p2m.specs.declared.Owner.TheVariants.{Domain, Nobody}
-use Rattle.perm.specs.Perm.{permCode}
+use Rattle.perm.specs.Perm.{perm_code}
 use Rattle.perm.specs.declared.Perm.TheVariants.{Rw}
 
 -- what one of two allows is the wider of what each does
@@ -42,49 +42,49 @@ wider false false false true = refl
 wider false false false false = refl
 
 module _ (frames : List (List ℕ)) (dom m : ℕ) where
-  own : widestAt frames [] dom m ≡ pick (owned_by dom (ownerOf frames m)) (permCode Rw) 0
-  unfolding widestAt hasGrant
-  own = go (ownerOf frames m)
+  own : widest_at frames [] dom m ≡ pick (owned_by dom (owner_of frames m)) (perm_code Rw) 0
+  unfolding widest_at has_grant
+  own = go (owner_of frames m)
     where
-      by-test : (b : Bool) → widest (b || false) (b || false) ≡ pick b (permCode Rw) 0
-      by-test true = refl
-      by-test false = refl
+      by_test : (b : Bool) → widest (b || false) (b || false) ≡ pick b (perm_code Rw) 0
+      by_test true = refl
+      by_test false = refl
 
-      go : (o : Owner) → widest (reaches [] dom m false o) (reaches [] dom m true o) ≡ pick (owned_by dom o) (permCode Rw) 0
-      go (Domain o) = by-test (eqb o dom)
+      go : (o : Owner) → widest (reaches [] dom m false o) (reaches [] dom m true o) ≡ pick (owned_by dom o) (perm_code Rw) 0
+      go (Domain o) = by_test (eqb o dom)
       go Nobody = refl
 
   abbrev by_row : List ℕ → ℕ
-  by_row row = pick (owned_by dom (ownerNamed (get_or row 0 0))) (permCode Rw) 0
+  by_row row = pick (owned_by dom (owner_named (get_or row 0 0))) (perm_code Rw) 0
 
-  pub own-inside : m < length frames → widestAt frames [] dom m ≡ by_row (get_or frames m [])
-  own-inside inside = own ∙ ap by_row (sym (getD-inside frames m [] noFrame inside))
+  pub own_inside : m < length frames → widest_at frames [] dom m ≡ by_row (get_or frames m [])
+  own_inside inside = own ∙ ap by_row (sym (get_d_inside frames m [] no_frame inside))
 
-  pub own-past : length frames ≤ m → widestAt frames [] dom m ≡ 0
-  own-past past = own ∙ ap by_row (get_or-eq_default frames noFrame past)
+  pub own_past : length frames ≤ m → widest_at frames [] dom m ≡ 0
+  own_past past = own ∙ ap by_row (get_or-eq_default frames no_frame past)
 
   module _ (g : Grant) where
     pub more :
         (gs : List Grant) →
-        widestAt frames (gs ++ g ∷ []) dom m ≡ larger (widestAt frames gs dom m) (widestBy frames dom m g)
-    unfolding widestAt widestBy
+        widest_at frames (gs ++ g ∷ []) dom m ≡ larger (widest_at frames gs dom m) (widest_by frames dom m g)
+    unfolding widest_at widest_by
     more gs =
-        let o = ownerOf frames m in
-        ap (λ r. widest r (reaches (gs ++ g ∷ []) dom m true o)) (reached-more false o)
-        ∙ ap (λ x. widest (reaches gs dom m false o || covered g dom m false o) x) (reached-more true o)
+        let o = owner_of frames m in
+        ap (λ r. widest r (reaches (gs ++ g ∷ []) dom m true o)) (reached_more false o)
+        ∙ ap (λ x. widest (reaches gs dom m false o || covered g dom m false o) x) (reached_more true o)
         ∙ wider (reaches gs dom m false o) (reaches gs dom m true o) (covered g dom m false o) (covered g dom m true o)
       where
-        reached-more :
+        reached_more :
             (w : Bool) (o : Owner) →
             reaches (gs ++ g ∷ []) dom m w o ≡ (reaches gs dom m w o || covered g dom m w o)
-        reached-more w (Domain o) =
-            ap (λ b. eqb o dom || b) (granted-more gs g o dom m w)
-            ∙ or_assoc (eqb o dom) (hasGrant gs o dom m w) (covers o dom m w g)
-        reached-more w Nobody = refl
+        reached_more w (Domain o) =
+            ap (λ b. eqb o dom || b) (granted_more gs g o dom m w)
+            ∙ or_assoc (eqb o dom) (has_grant gs o dom m w) (covers o dom m w g)
+        reached_more w Nobody = refl
 
-    pub elsewhere : g.frame ≢ m → widestBy frames dom m g ≡ 0
-    unfolding widestBy covers
-    elsewhere other = go (ownerOf frames m)
+    pub elsewhere : g.frame ≢ m → widest_by frames dom m g ≡ 0
+    unfolding widest_by covers
+    elsewhere other = go (owner_of frames m)
       where
         go : (o : Owner) → widest (covered g dom m false o) (covered g dom m true o) ≡ 0
         go (Domain o) = rw (ne_eqb g.frame m other)

@@ -2,26 +2,26 @@
 use Rattle.std.specs.Prelude.{ℕ, Bool, true, false, not, ◌&&◌, ◌||◌, List, [], ◌∷◌, ◌++◌, eqb}
 use Rattle.grant.specs.Grant.{covers}
 use Rattle.grant.specs.declared.Grant.{Grant}
-use Rattle.p2m.specs.Frame.{ownerOf}
+use Rattle.p2m.specs.Frame.{owner_of}
 use Rattle.p2m.specs.declared.Owner.{Owner}
 use Rattle.p2m.specs.declared.Owner.TheVariants.{Domain, Nobody}
-use Rattle.perm.specs.Perm.{permWrites, entryNamed}
+use Rattle.perm.specs.Perm.{perm_writes, entry_named}
 use Rattle.perm.specs.declared.Entry.TheVariants.{Mapped, Unmapped}
 use Rattle.perm.specs.declared.Entry.{Entry}
 use Rattle.perm.specs.declared.Perm.{Perm}
 use Rattle.refusal.specs.Outcome.{refuse}
-use Rattle.refusal.specs.Table.{Row, eachFrom, all_rows}
+use Rattle.refusal.specs.Table.{Row, each_from, all_rows}
 use Rattle.refusal.specs.declared.Refusal.TheVariants.{UnauthorizedMapping, WriteEscalation}
-use Rattle.rows.specs.Rows.{readRows}
+use Rattle.rows.specs.Rows.{read_rows}
 
 -- any one grant counts
-unfoldable pub hasGrant : List Grant → ℕ → ℕ → ℕ → Bool → Bool
-hasGrant [] owner dom m writes = false
-hasGrant (g ∷ gs) owner dom m writes = covers owner dom m writes g || hasGrant gs owner dom m writes
+unfoldable pub has_grant : List Grant → ℕ → ℕ → ℕ → Bool → Bool
+has_grant [] owner dom m writes = false
+has_grant (g ∷ gs) owner dom m writes = covers owner dom m writes g || has_grant gs owner dom m writes
 
 -- the domain owns the frame, or its owner grants it; a frame that nobody owns is nobody's to grant
 abbrev pub reaches : List Grant → ℕ → ℕ → Bool → Owner → Bool
-reaches grants dom m writes (Domain owner) = eqb owner dom || hasGrant grants owner dom m writes
+reaches grants dom m writes (Domain owner) = eqb owner dom || has_grant grants owner dom m writes
 reaches grants dom m writes Nobody = false
 
 -- row 23: a mapped frame that the domain may not reach
@@ -32,18 +32,18 @@ row23 grants dom m perm owner = refuse (not (reaches grants dom m false owner)) 
 abbrev pub row24 : List Grant → ℕ → ℕ → Perm → Owner → List Row
 row24 grants dom m perm (Domain owner) =
     let o = Domain owner in
-    refuse (permWrites perm && reaches grants dom m false o && not (reaches grants dom m true o)) (WriteEscalation dom m owner)
+    refuse (perm_writes perm && reaches grants dom m false o && not (reaches grants dom m true o)) (WriteEscalation dom m owner)
 row24 grants dom m perm Nobody = []
 
 -- an unmapped entry reaches no frame
-unfoldable pub ownerRows : List Grant → ℕ → ℕ → Entry → Owner → List Row
-ownerRows grants dom m (Mapped perm) owner = row23 grants dom m perm owner ++ row24 grants dom m perm owner
-ownerRows grants dom m Unmapped owner = []
+unfoldable pub owner_rows : List Grant → ℕ → ℕ → Entry → Owner → List Row
+owner_rows grants dom m (Mapped perm) owner = row23 grants dom m perm owner ++ row24 grants dom m perm owner
+owner_rows grants dom m Unmapped owner = []
 
 -- an entry, by its frame; at most one of the two applies
-unfoldable pub reachRows : List (List ℕ) → List Grant → ℕ → ℕ → ℕ → List Row
-reachRows frames grants dom m entry = ownerRows grants dom m (entryNamed entry) (ownerOf frames m)
+unfoldable pub reach_rows : List (List ℕ) → List Grant → ℕ → ℕ → ℕ → List Row
+reach_rows frames grants dom m entry = owner_rows grants dom m (entry_named entry) (owner_of frames m)
 
 -- 2 and 3 first, the map's code being 1; then the lowest frame first
-unfoldable pub authorityRows : List (List ℕ) → List Grant → ℕ → List ℕ → List Row
-authorityRows frames grants dom map = all_rows (readRows 1 map ∷ eachFrom (reachRows frames grants dom) 0 map ∷ [])
+unfoldable pub authority_rows : List (List ℕ) → List Grant → ℕ → List ℕ → List Row
+authority_rows frames grants dom map = all_rows (read_rows 1 map ∷ each_from (reach_rows frames grants dom) 0 map ∷ [])

@@ -1,18 +1,18 @@
 // Whether a domain may reach every frame that a map maps (hv-s2's check.rs).
 ghost use Rattle.std.specs.Prelude.{ℕ, min, ◌≤◌, ◌<◌, true, List, [], map, ◌≡◌, length, get_or};
-ghost use Rattle.authority.specs.Authority.{reachRows, authorityRows};
-ghost use Rattle.authority.specs.Widest.{widestAt, widestBy, asked};
+ghost use Rattle.authority.specs.Authority.{reach_rows, authority_rows};
+ghost use Rattle.authority.specs.Widest.{widest_at, widest_by, asked};
 ghost use Rattle.edge.specs.Edge.{owned_by};
 ghost use Rattle.fields.specs.Named.{pick};
-ghost use Rattle.grant.specs.Grant.{grantOf};
+ghost use Rattle.grant.specs.Grant.{grant_of};
 ghost use Rattle.grant.specs.declared.Grant.{Grant};
 ghost use Rattle.layout.specs.Size.{entries};
 ghost use Rattle.map_entries.specs.Larger.{larger};
-ghost use Rattle.p2m.specs.Frame.{ownerNamed};
-ghost use Rattle.perm.specs.Perm.{permCode};
+ghost use Rattle.p2m.specs.Frame.{owner_named};
+ghost use Rattle.perm.specs.Perm.{perm_code};
 ghost use Rattle.perm.specs.declared.Perm.TheVariants.{Rw};
-ghost use Rattle.refusal.specs.Outcome.{outcomeOf, row_of};
-ghost use Rattle.refusal.specs.Table.{refused, first, eachFrom};
+ghost use Rattle.refusal.specs.Outcome.{outcome_of, row_of};
+ghost use Rattle.refusal.specs.Table.{refused, first, each_from};
 ghost use Rattle.refusal.specs.declared.Refusal.TheVariants.{UnauthorizedMapping};
 
 use grant::Grant;
@@ -28,8 +28,8 @@ pub fn check_authorized_with(
     frames: &[[u32; 2]],
     grants: &[[u32; 4]],
 ) -> Verdict
-    ensures { outcomeOf result ≡ first
-        (authorityRows frames.now (map grantOf grants.now) dom leaves.now) }
+    ensures { outcome_of result ≡ first
+        (authority_rows frames.now (map grant_of grants.now) dom leaves.now) }
 {
     let readable = lent_rows::read_map(1, leaves);
     let Verdict::Accepted = readable else {
@@ -45,8 +45,8 @@ pub fn check_authorized_with(
 // Rows 23 and 24, of every entry. The pass that finds no frame has no branch to take, and an authorized map needs no other.
 fn all_reached(dom: u16, leaves: &[u8], frames: &[[u32; 2]], grants: &[[u32; 4]]) -> Verdict
     requires { length leaves.now ≤ entries }
-    ensures { outcomeOf result ≡ first
-        (eachFrom (reachRows frames.now (map grantOf grants.now) dom) 0 leaves.now) }
+    ensures { outcome_of result ≡ first
+        (each_from (reach_rows frames.now (map grant_of grants.now) dom) 0 leaves.now) }
 {
     let widest = widest_entries(dom, leaves.len(), frames, grants);
     if all_within(leaves, &widest) {
@@ -63,8 +63,8 @@ fn all_reached(dom: u16, leaves: &[u8], frames: &[[u32; 2]], grants: &[[u32; 4]]
 
 // Rows 23 and 24, of one entry, by the widest that its frame may have.
 fn reached(dom: u16, mfn: u32, entry: u8, widest: u8, frames: &[[u32; 2]]) -> Verdict
-    ensures { (grants : List Grant) → widest ≡ widestAt frames.now grants dom mfn
-        → outcomeOf result ≡ first (reachRows frames.now grants dom mfn entry) }
+    ensures { (grants : List Grant) → widest ≡ widest_at frames.now grants dom mfn
+        → outcome_of result ≡ first (reach_rows frames.now grants dom mfn entry) }
 {
     if asked(entry) <= widest {
         return Verdict::Accepted;
@@ -88,7 +88,7 @@ fn reached(dom: u16, mfn: u32, entry: u8, widest: u8, frames: &[[u32; 2]]) -> Ve
 }
 
 fn unauthorized(dom: u16, mfn: u32, owner: Owner, perm: Perm) -> Verdict
-    ensures { outcomeOf result ≡ refused (row_of (UnauthorizedMapping dom mfn owner perm)) }
+    ensures { outcome_of result ≡ refused (row_of (UnauthorizedMapping dom mfn owner perm)) }
 {
     Verdict::Refused(Refusal::UnauthorizedMapping {
         dom: dom as u64,
@@ -130,7 +130,7 @@ fn widest_entries(
     grants: &[[u32; 4]],
 ) -> [u8; Layout::ENTRIES]
     requires { count ≤ entries }
-    ensures { (m : ℕ) → m < count → get_or result m 0 ≡ widestAt frames.now (map grantOf grants.now) dom m }
+    ensures { (m : ℕ) → m < count → get_or result m 0 ≡ widest_at frames.now (map grant_of grants.now) dom m }
 {
     let mut widest = own_entries(dom, count, frames);
     for i in 0..grants.len() {
@@ -142,7 +142,7 @@ fn widest_entries(
 // Before any grant: the domain's own frames. `edge::owns` would look for the list's end at each frame, and this loop has no branch.
 fn own_entries(dom: u16, count: usize, frames: &[[u32; 2]]) -> [u8; Layout::ENTRIES]
     requires { count ≤ entries }
-    ensures { (m : ℕ) → m < count → get_or result m 0 ≡ widestAt frames.now [] dom m }
+    ensures { (m : ℕ) → m < count → get_or result m 0 ≡ widest_at frames.now [] dom m }
 {
     let mut widest = [0u8; Layout::ENTRIES];
     for m in 0..lesser(count, frames.len()) {
@@ -153,7 +153,7 @@ fn own_entries(dom: u16, count: usize, frames: &[[u32; 2]]) -> [u8; Layout::ENTR
 
 // A domain's number is its owner number.
 fn own_entry(dom: u16, owner: u32) -> u8
-    ensures { result ≡ pick (owned_by dom (ownerNamed owner)) (permCode Rw) 0 }
+    ensures { result ≡ pick (owned_by dom (owner_named owner)) (perm_code Rw) 0 }
 {
     if owner == dom as u32 {
         return Perm::Rw.code();
@@ -173,7 +173,7 @@ fn lesser(a: usize, b: usize) -> usize
 // After one grant more, which takes nothing back.
 fn note(widest: &mut [u8], g: Grant, dom: u16, frames: &[[u32; 2]])
     ensures { (m : ℕ) → m < length widest.old
-        → get_or widest.new m 0 ≡ larger (get_or widest.old m 0) (widestBy frames.now dom m g) }
+        → get_or widest.new m 0 ≡ larger (get_or widest.old m 0) (widest_by frames.now dom m g) }
 {
     let frame = g.frame as usize;
     if frame < widest.len() {
@@ -186,7 +186,7 @@ fn note(widest: &mut [u8], g: Grant, dom: u16, frames: &[[u32; 2]])
 
 // The widest entry of a grant's own frame by that grant alone. What nobody owns nobody can grant.
 fn granted_entry(g: Grant, dom: u16, frames: &[[u32; 2]]) -> u8
-    ensures { result ≡ widestBy frames.now dom g.frame g }
+    ensures { result ≡ widest_by frames.now dom g.frame g }
 {
     let Owner::Domain(owner) = p2m::owner_of(frames, g.frame) else {
         return 0;

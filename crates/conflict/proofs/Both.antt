@@ -9,9 +9,9 @@ use lib.ListN.{length, get_or, get_or-eq_default}
 use borrow.Author.Tests.{eqb-false, eq-eqb, ltb-true, ltb-false}
 use Rattle.conflict.specs.Conflict.{row17}
 
-pub no-conflict-at : (sup : List ℕ) (m entry : ℕ) → min entry (get_or sup m 0) ≤ 0 → row17 sup m entry ≡ []
+pub no_conflict_at : (sup : List ℕ) (m entry : ℕ) → min entry (get_or sup m 0) ≤ 0 → row17 sup m entry ≡ []
 unfolding row17
-no-conflict-at sup m entry h = go (eqb entry 0) refl
+no_conflict_at sup m entry h = go (eqb entry 0) refl
   where
     go : (b : Bool) → eqb entry 0 ≡ b → row17 sup m entry ≡ []
     go true t = rw t

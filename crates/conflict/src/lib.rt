@@ -1,15 +1,15 @@
 // Row 17 of document 01's table: a frame in both maps (hv-s2's leafmap.rs).
 ghost use Rattle.std.specs.Prelude.{ℕ, min, [], ◌≡◌, length, get_or};
 ghost use Rattle.conflict.specs.Conflict.{row17};
-ghost use Rattle.refusal.specs.Outcome.{outcomeOf};
-ghost use Rattle.refusal.specs.Table.{first, eachFrom};
+ghost use Rattle.refusal.specs.Outcome.{outcome_of};
+ghost use Rattle.refusal.specs.Table.{first, each_from};
 
 use refusal::{Refusal, Verdict};
 
 // Row 17: a frame has one span, or it would need two places in memory. The pass that finds no frame has no branch to take, and most
 // maps need no other.
 pub fn no_conflict(base: &[u8], sup: &[u8]) -> Verdict
-    ensures { outcomeOf result ≡ first (eachFrom (row17 sup.now) 0 base.now) }
+    ensures { outcome_of result ≡ first (each_from (row17 sup.now) 0 base.now) }
 {
     if overlap(base, sup) == 0 {
         return Verdict::Accepted;

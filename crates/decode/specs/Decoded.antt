@@ -1,7 +1,7 @@
 -- What a word means to the Rust's decoders, in the fields of DDI 0487.
 use Rattle.std.specs.Prelude.{ℕ, Bool, [], ◌∷◌, eqb}
-use Rattle.desc.specs.Descriptor.{descriptorType, blockType, tableType, pageType, memAttr, s2ap, executeNever, pageAddress, blockAddress}
-use Rattle.desc.specs.Words.{s2apOf}
+use Rattle.desc.specs.Descriptor.{descriptor_type, block_type, table_type, page_type, mem_attr, s2ap, execute_never, page_address, block_address}
+use Rattle.desc.specs.Words.{s2ap_of}
 use Rattle.fields.specs.Named.{pick, named}
 use Rattle.perm.specs.declared.Perm.TheVariants.{Ro, Rw}
 use Rattle.decode.specs.declared.Access.TheVariants.{Perm as Grants, Nothing as NoAccess}
@@ -14,36 +14,36 @@ use Rattle.decode.specs.declared.DecodedTable.TheVariants.{At, Nothing as NoTabl
 use Rattle.decode.specs.declared.DecodedTable.{DecodedTable}
 
 -- 00 and 10 give nothing
-abbrev pub accessNamed : ℕ → Access
-accessNamed = named s2apOf (Rw ∷ Ro ∷ []) Grants NoAccess
+abbrev pub access_named : ℕ → Access
+access_named = named s2ap_of (Rw ∷ Ro ∷ []) Grants NoAccess
 
-abbrev pub accessOf : ℕ → Access
-accessOf d = accessNamed (s2ap d)
+abbrev pub access_of : ℕ → Access
+access_of d = access_named (s2ap d)
 
 -- a leaf of output address pa, where its access is one
-abbrev pub leafOf : ℕ → Bool → Access → DecodedLeaf
-leafOf pa never (Grants p) = Leaf (record { pa = pa; perm = p; xn = never })
-leafOf pa never NoAccess = NoLeaf
+abbrev pub leaf_of : ℕ → Bool → Access → DecodedLeaf
+leaf_of pa never (Grants p) = Leaf (record { pa = pa; perm = p; xn = never })
+leaf_of pa never NoAccess = NoLeaf
 
-abbrev pub leafAt : ℕ → ℕ → DecodedLeaf
-leafAt pa d = leafOf pa (executeNever d) (accessOf d)
+abbrev pub leaf_at : ℕ → ℕ → DecodedLeaf
+leaf_at pa d = leaf_of pa (execute_never d) (access_of d)
 
 -- its output address, 0 where there is none
-abbrev pub outputOf : DecodedLeaf → ℕ
-outputOf (Leaf d) = d.pa
-outputOf NoLeaf = 0
+abbrev pub output_of : DecodedLeaf → ℕ
+output_of (Leaf d) = d.pa
+output_of NoLeaf = 0
 
-abbrev pub decodedPage : ℕ → DecodedLeaf
-decodedPage d = pick (eqb (descriptorType d) pageType) (leafAt (pageAddress d) d) NoLeaf
+abbrev pub decoded_page : ℕ → DecodedLeaf
+decoded_page d = pick (eqb (descriptor_type d) page_type) (leaf_at (page_address d) d) NoLeaf
 
-abbrev pub decodedBlock : ℕ → DecodedLeaf
-decodedBlock d = pick (eqb (descriptorType d) blockType) (leafAt (blockAddress d) d) NoLeaf
+abbrev pub decoded_block : ℕ → DecodedLeaf
+decoded_block d = pick (eqb (descriptor_type d) block_type) (leaf_at (block_address d) d) NoLeaf
 
-abbrev pub decodedTable : ℕ → DecodedTable
-decodedTable d = pick (eqb (descriptorType d) tableType) (At (pageAddress d)) NoTable
+abbrev pub decoded_table : ℕ → DecodedTable
+decoded_table d = pick (eqb (descriptor_type d) table_type) (At (page_address d)) NoTable
 
 -- MemAttr 0000 is Device-nGnRnE
-abbrev pub decodedDevice : ℕ → DecodedBlock
-decodedDevice d =
-    pick (eqb (descriptorType d) blockType)
-    (pick (eqb (memAttr d) 0) (Device (record { pa = blockAddress d; xn = executeNever d })) NoBlock) NoBlock
+abbrev pub decoded_device : ℕ → DecodedBlock
+decoded_device d =
+    pick (eqb (descriptor_type d) block_type)
+    (pick (eqb (mem_attr d) 0) (Device (record { pa = block_address d; xn = execute_never d })) NoBlock) NoBlock

@@ -1,10 +1,10 @@
 -- What is proved of emitted words: decoding gives back what was joined.
 use Rattle.std.specs.Prelude.{ℕ, ◌+◌, ◌%◌, ◌^◌, ◌<◌, Bool, true, false, ◌≡◌}
-use Rattle.desc.specs.WordFields.{readExecute, readWrite}
-use Rattle.desc.specs.Words.{tableWord, pageWord, blockWord, imageWord, deviceWord, leafAccessXn}
+use Rattle.desc.specs.WordFields.{read_execute, read_write}
+use Rattle.desc.specs.Words.{table_word, page_word, block_word, image_word, device_word, leaf_access_xn}
 use Rattle.desc.specs.declared.AccessXn.{AccessXn}
 use Rattle.perm.specs.declared.Perm.{Perm}
-use Rattle.decode.specs.Decoded.{decodedPage, decodedBlock, decodedTable, decodedDevice}
+use Rattle.decode.specs.Decoded.{decoded_page, decoded_block, decoded_table, decoded_device}
 use Rattle.decode.specs.declared.DecodedBlock.TheVariants.{Device}
 use Rattle.decode.specs.declared.DecodedLeaf.TheVariants.{Leaf}
 use Rattle.decode.specs.declared.DecodedLeaf.{DecodedLeaf}
@@ -15,16 +15,16 @@ pub record Output (k pa : ℕ) : Type 0 where
   pub below : pa < 2 ^ 48
   pub aligned : pa % 2 ^ k ≡ 0
 
-abbrev pub leafWith : ℕ → AccessXn → DecodedLeaf
-leafWith pa a = Leaf (record { pa = pa; perm = a.access; xn = a.xn })
+abbrev pub leaf_with : ℕ → AccessXn → DecodedLeaf
+leaf_with pa a = Leaf (record { pa = pa; perm = a.access; xn = a.xn })
 
 -- decoding an emitted word gives back its address, access and execute bit
 pub record EmittedDecodes : Type 0 where
-  pub table : (pa : ℕ) → Output 12 pa → decodedTable (pa + tableWord) ≡ At pa
-  pub page : (pa : ℕ) (p : Perm) → Output 12 pa → decodedPage (pa + pageWord p) ≡ leafWith pa (leafAccessXn p false)
+  pub table : (pa : ℕ) → Output 12 pa → decoded_table (pa + table_word) ≡ At pa
+  pub page : (pa : ℕ) (p : Perm) → Output 12 pa → decoded_page (pa + page_word p) ≡ leaf_with pa (leaf_access_xn p false)
   pub block :
       (pa : ℕ) (p : Perm) (exempt : Bool) →
-      Output 21 pa → decodedBlock (pa + blockWord p exempt) ≡ leafWith pa (leafAccessXn p exempt)
-  pub image : (pa : ℕ) → Output 21 pa → decodedBlock (pa + imageWord) ≡ leafWith pa readExecute
-  pub device : (pa : ℕ) → Output 21 pa → decodedDevice (pa + deviceWord) ≡ Device (record { pa = pa; xn = true })
-  pub device-leaf : (pa : ℕ) → Output 21 pa → decodedBlock (pa + deviceWord) ≡ leafWith pa readWrite
+      Output 21 pa → decoded_block (pa + block_word p exempt) ≡ leaf_with pa (leaf_access_xn p exempt)
+  pub image : (pa : ℕ) → Output 21 pa → decoded_block (pa + image_word) ≡ leaf_with pa read_execute
+  pub device : (pa : ℕ) → Output 21 pa → decoded_device (pa + device_word) ≡ Device (record { pa = pa; xn = true })
+  pub device_leaf : (pa : ℕ) → Output 21 pa → decoded_block (pa + device_word) ≡ leaf_with pa read_write

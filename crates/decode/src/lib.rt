@@ -1,7 +1,7 @@
 // The decoders of stage-2 descriptors (hv-s2's arm64.rs): what any word means.
 ghost use Rattle.std.specs.Prelude.{◌≡◌};
-ghost use Rattle.desc.specs.Descriptor.{pageAddress, blockAddress, executeNever};
-ghost use Rattle.decode.specs.Decoded.{accessOf, leafAt, decodedPage, decodedBlock, decodedTable, decodedDevice};
+ghost use Rattle.desc.specs.Descriptor.{page_address, block_address, execute_never};
+ghost use Rattle.decode.specs.Decoded.{access_of, leaf_at, decoded_page, decoded_block, decoded_table, decoded_device};
 
 use perm::Perm;
 
@@ -46,7 +46,7 @@ enum Access {
 
 // A level 3 page.
 pub fn decode_page(d: u64) -> DecodedLeaf
-    ensures { result ≡ decodedPage d }
+    ensures { result ≡ decoded_page d }
 {
     if d % 4 != desc::PAGE {
         return DecodedLeaf::Nothing;
@@ -56,7 +56,7 @@ pub fn decode_page(d: u64) -> DecodedLeaf
 
 // A level 2 block.
 pub fn decode_block(d: u64) -> DecodedLeaf
-    ensures { result ≡ decodedBlock d }
+    ensures { result ≡ decoded_block d }
 {
     if d % 4 != desc::BLOCK {
         return DecodedLeaf::Nothing;
@@ -66,7 +66,7 @@ pub fn decode_block(d: u64) -> DecodedLeaf
 
 // The table that a level 1 or level 2 word names.
 pub fn decode_table(d: u64) -> DecodedTable
-    ensures { result ≡ decodedTable d }
+    ensures { result ≡ decoded_table d }
 {
     if d % 4 != desc::TABLE {
         return DecodedTable::Nothing;
@@ -76,7 +76,7 @@ pub fn decode_table(d: u64) -> DecodedTable
 
 // A block whose MemAttr is Device-nGnRnE: a Normal block is none.
 pub fn decode_device_block(d: u64) -> DecodedBlock
-    ensures { result ≡ decodedDevice d }
+    ensures { result ≡ decoded_device d }
 {
     if d % 4 != desc::BLOCK {
         return DecodedBlock::Nothing;
@@ -92,7 +92,7 @@ pub fn decode_device_block(d: u64) -> DecodedBlock
 
 // The leaf that a word of the right type is, if it has an access.
 fn leaf_at(pa: u64, d: u64) -> DecodedLeaf
-    ensures { result ≡ leafAt pa d }
+    ensures { result ≡ leaf_at pa d }
 {
     let Access::Perm(perm) = decode_perm(d) else {
         return DecodedLeaf::Nothing;
@@ -106,7 +106,7 @@ fn leaf_at(pa: u64, d: u64) -> DecodedLeaf
 
 // S2AP: 11 and 01. 00 and 10 give no access here.
 fn decode_perm(d: u64) -> Access
-    ensures { result ≡ accessOf d }
+    ensures { result ≡ access_of d }
 {
     match d / 64 % 4 {
         0b11 => Access::Perm(Perm::Rw),
@@ -117,21 +117,21 @@ fn decode_perm(d: u64) -> Access
 
 // Bits 47:12, in place.
 fn page_address(d: u64) -> u64
-    ensures { result ≡ pageAddress d }
+    ensures { result ≡ page_address d }
 {
     d / 0x1000 % 0x10_0000_0000 * 0x1000
 }
 
 // Bits 47:21, in place.
 fn block_address(d: u64) -> u64
-    ensures { result ≡ blockAddress d }
+    ensures { result ≡ block_address d }
 {
     d / 0x20_0000 % 0x800_0000 * 0x20_0000
 }
 
 // Bit 54.
 fn execute_never(d: u64) -> bool
-    ensures { result ≡ executeNever d }
+    ensures { result ≡ execute_never d }
 {
     d / 0x40_0000_0000_0000 % 2 == 1
 }

@@ -1,20 +1,20 @@
 -- The walks of a changed S, by computing.
 use mathlib.Core.Path.{refl}
-use Rattle.arena.specs.Encoded.{encoded, stored, word_at, upperRuns, leafRuns}
+use Rattle.arena.specs.Encoded.{encoded, stored, word_at, upper_runs, leaf_runs}
 use Rattle.demand_2.specs.BeyondVerification.{BeyondVerification}
-use Rattle.descent.specs.Descent.{fetchFrom, descend}
-use Rattle.layout.specs.Layout.{layoutOf}
+use Rattle.descent.specs.Descent.{fetch_from, descend}
+use Rattle.layout.specs.Layout.{layout_of}
 use Rattle.walk.specs.Walk.{walk_of}
-use Rattle.window_reach.specs.Granted.{grantedBy}
+use Rattle.window_reach.specs.Granted.{granted_by}
 
-pub beyond-verification : BeyondVerification
-unfolding layoutOf encoded stored word_at upperRuns leafRuns fetchFrom descend walk_of grantedBy
-beyond-verification =
+pub beyond_verification : BeyondVerification
+unfolding layout_of encoded stored word_at upper_runs leaf_runs fetch_from descend walk_of granted_by
+beyond_verification =
     record {
-      table-word = refl;
-      table-word-granted = refl;
-      normal-block = refl;
-      normal-block-granted = refl;
+      word_of_table = refl;
+      table_word_granted = refl;
+      normal_block = refl;
+      normal_block_granted = refl;
       no_access = refl;
-      no-access-granted = refl;
+      no_access_granted = refl;
     }

@@ -8,22 +8,22 @@ use lib.Seq.{take-length, take-append-le, take-append-add}
 use borrow.Author.Tests.{ne_eqb}
 use Rattle.refusal.proofs.None.{refused≢accepted}
 use Rattle.refusal.specs.Table.{Row, Outcome, accepted, refused}
-use Rattle.demand_3.specs.Belonging.{counting, stores_of, NoneStores, found, Update, allSteps, CutsBelong, BeforeAny}
-use Rattle.demand_3.specs.Cuts.{Kind, full, Step, Cut, start, cutAfter, EachStep, In, begun, to-begin}
-use Rattle.demand_3.specs.Cuts.{answered, wordsLeft, opened, goneOn, storing, counted, stepped}
+use Rattle.demand_3.specs.Belonging.{counting, stores_of, NoneStores, found, Update, all_steps, CutsBelong, BeforeAny}
+use Rattle.demand_3.specs.Cuts.{Kind, full, Step, Cut, start, cut_after, EachStep, In, begun, to_begin}
+use Rattle.demand_3.specs.Cuts.{answered, words_left, opened, gone_on, storing, counted, stepped}
 
 -- what a step makes of a cut, by its answer and kind
 
-pub full-same : {m n : ℕ} → full m ≡ full n → m ≡ n
-full-same e = cc
+pub full_same : {m n : ℕ} → full m ≡ full n → m ≡ n
+full_same e = cc
 
-left-as-found : (q : Kind) (r : Row) (c : Cut) (s : Step) → wordsLeft q (refused r) c s ≡ c.words
-left-as-found (full n) r c s = refl
+left_as_found : (q : Kind) (r : Row) (c : Cut) (s : Step) → words_left q (refused r) c s ≡ c.words
+left_as_found (full n) r c s = refl
 
-pub as-found : (c : Cut) (s : Step) (r : Row) → counted (refused r) c s ≡ c
-as-found c s r =
+pub as_found : (c : Cut) (s : Step) (r : Row) → counted (refused r) c s ≡ c
+as_found c s r =
     ap (λ (w : List ℕ). let d : Cut = record { words = w; k = c.k; old = c.old; source = c.source } in d)
-    (left-as-found s.kind r c s)
+    (left_as_found s.kind r c s)
 
 unchanged : (c : Cut) (s : Step) → (answered c s ≡ accepted → ⊥) → stepped c s ≡ c
 unfolding stepped
@@ -31,24 +31,24 @@ unchanged c s ne = go (answered c s) refl
   where
     go : (o : Outcome) → answered c s ≡ o → counted o c s ≡ c
     go accepted e = absurd (ne e)
-    go (refused r) e = as-found c s r
+    go (refused r) e = as_found c s r
 
 pub beginning : (c : Cut) (s : Step) → answered c s ≡ accepted → s.kind ≡ full 0 → stepped c s ≡ opened c s
 unfolding stepped
 beginning c s a z = ap (λ (o : Outcome). counted o c s) a ∙ ap (λ (q : Kind). storing q c s) z
 
-pub going_on : (c : Cut) (s : Step) → answered c s ≡ accepted → (s.kind ≡ full 0 → ⊥) → stepped c s ≡ goneOn c s
+pub going_on : (c : Cut) (s : Step) → answered c s ≡ accepted → (s.kind ≡ full 0 → ⊥) → stepped c s ≡ gone_on c s
 unfolding stepped
 going_on c s a ne = ap (λ (o : Outcome). counted o c s) a ∙ go s.kind ne
   where
-    go : (q : Kind) → (q ≡ full 0 → ⊥) → storing q c s ≡ goneOn c s
+    go : (q : Kind) → (q ≡ full 0 → ⊥) → storing q c s ≡ gone_on c s
     go (full n) other = rw (ne_eqb n 0 (λ z. other (ap full z)))
 
 -- a list that is cut in its second part
 
 pub cut_in :
     (words : List ℕ) (xs ys : List Step) (n : ℕ) →
-    cutAfter words (xs ++ ys) (length xs + n) ≡ foldl stepped (cutAfter words xs (length xs)) (take n ys)
+    cut_after words (xs ++ ys) (length xs + n) ≡ foldl stepped (cut_after words xs (length xs)) (take n ys)
 cut_in words xs ys n =
     ap (foldl stepped (start words)) (take-append-add xs ys n)
     ∙ foldl-append stepped (start words) xs (take n ys)
@@ -100,59 +100,59 @@ onward (s ∷ steps) c alone (suc n) = go (answered c s) refl (onward steps (ste
 module _ (words : List ℕ) (before idle : List Step) (zeroth : Step) (rest later : List Step)
     (u : Update words before idle zeroth rest) where
   abbrev c₀ : Cut
-  c₀ = cutAfter words before (length before)
+  c₀ = cut_after words before (length before)
 
   abbrev c₁ : Cut
   c₁ = found words before idle zeroth rest
 
   still : c₁ ≡ c₀
   still =
-      ap (cutAfter words (before ++ idle)) (length-append before idle)
+      ap (cut_after words (before ++ idle)) (length-append before idle)
       ∙ cut_in words before idle (length idle)
-      ∙ idling idle c₀ u.none-stores (length idle)
+      ∙ idling idle c₀ u.none_stores (length idle)
 
-  before-it :
+  before_it :
       (n : ℕ) → n ≤ length idle →
-      In c₁.words zeroth.source (cutAfter words (allSteps words before idle zeroth rest later) (length before + n)) 0
-  before-it n h =
+      In c₁.words zeroth.source (cut_after words (all_steps words before idle zeroth rest later) (length before + n)) 0
+  before_it n h =
       let same =
       cut_in words before (idle ++ (zeroth ∷ (rest ++ later))) n
       ∙ ap (foldl stepped c₀) (take-append-le n idle (zeroth ∷ (rest ++ later)) h)
-      ∙ idling idle c₀ u.none-stores n
+      ∙ idling idle c₀ u.none_stores n
       ∙ sym still in
-      to-begin (ap (λ (d : Cut). d.words) same)
+      to_begin (ap (λ (d : Cut). d.words) same)
 
-  at-since :
+  at_since :
       (n : ℕ) → n ≤ length rest →
-      cutAfter words (allSteps words before idle zeroth rest later) (length before + (length idle + suc n))
+      cut_after words (all_steps words before idle zeroth rest later) (length before + (length idle + suc n))
       ≡ foldl stepped (stepped c₁ zeroth) (take n rest)
-  at-since n h =
+  at_since n h =
       cut_in words before (idle ++ (zeroth ∷ (rest ++ later))) (length idle + suc n)
       ∙ ap (foldl stepped c₀) (take-append-add idle (zeroth ∷ (rest ++ later)) (suc n))
       ∙ foldl-append stepped c₀ idle (zeroth ∷ take n (rest ++ later))
       ∙ ap (λ d. foldl stepped (stepped d zeroth) (take n (rest ++ later)))
-      (ap (foldl stepped c₀) (sym (take-length idle)) ∙ idling idle c₀ u.none-stores (length idle) ∙ sym still)
+      (ap (foldl stepped c₀) (sym (take-length idle)) ∙ idling idle c₀ u.none_stores (length idle) ∙ sym still)
       ∙ ap (foldl stepped (stepped c₁ zeroth)) (take-append-le n rest later h)
 
   since :
       (n : ℕ) → n ≤ length rest →
       In c₁.words zeroth.source
-      (cutAfter words (allSteps words before idle zeroth rest later) (length before + (length idle + suc n)))
+      (cut_after words (all_steps words before idle zeroth rest later) (length before + (length idle + suc n)))
       (suc (stores_of (stepped c₁ zeroth) (take n rest)))
   since n h =
       let on = onward rest (stepped c₁ zeroth) u.no_other n in
-      let new = beginning c₁ zeroth u.stores u.zeroth-kind in
+      let new = beginning c₁ zeroth u.stores u.zeroth_kind in
       let k = on.k ∙ ap (λ (d : Cut). d.k + stores_of (stepped c₁ zeroth) (take n rest)) new in
-      subst (λ d. In c₁.words zeroth.source d (suc (stores_of (stepped c₁ zeroth) (take n rest)))) (sym (at-since n h))
+      subst (λ d. In c₁.words zeroth.source d (suc (stores_of (stepped c₁ zeroth) (take n rest)))) (sym (at_since n h))
       (subst (In c₁.words zeroth.source (foldl stepped (stepped c₁ zeroth) (take n rest))) (omega (arith, k))
       (begun (on.old ∙ ap (λ (d : Cut). d.old) new) (on.source ∙ ap (λ (d : Cut). d.source) new)))
 
-pub cuts-belong : CutsBelong
-cuts-belong words before idle zeroth rest later u =
+pub cuts_belong : CutsBelong
+cuts_belong words before idle zeroth rest later u =
     record {
-      before-it = before-it words before idle zeroth rest later u;
+      before_it = before_it words before idle zeroth rest later u;
       since = since words before idle zeroth rest later u;
     }
 
-pub before-any : BeforeAny
-before-any words steps none source n = to-begin (ap (λ (d : Cut). d.words) (idling steps (start words) none n))
+pub before_any : BeforeAny
+before_any words steps none source n = to_begin (ap (λ (d : Cut). d.words) (idling steps (start words) none n))

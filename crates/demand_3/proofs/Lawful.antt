@@ -5,13 +5,13 @@ use mathlib.Core.Path.{◌≡◌}
 use Rattle.accepted_facts.specs.Guarded.{Guarded}
 use Rattle.arena.specs.Encoded.{target}
 use Rattle.demand_2.proofs.Demand2.{reaches_whole}
-use Rattle.demand_2.specs.Demand2.{addressesOf}
-use Rattle.demand_3.specs.Readers.{EachRead, Reader, theWalk, theManual}
-use Rattle.demand_3.proofs.Torn.{reads-torn, reads_same, reads-zeros}
+use Rattle.demand_2.specs.Demand2.{addresses_of}
+use Rattle.demand_3.specs.Readers.{EachRead, Reader, the_walk, the_manual}
+use Rattle.demand_3.proofs.Torn.{reads_torn, reads_same, reads_zeros}
 use Rattle.descent.specs.Descent.{Words}
-use Rattle.layout.specs.Size.{boardLimit, arenaLength}
+use Rattle.layout.specs.Size.{board_limit, arena_length}
 use Rattle.layout.specs.declared.Layout.{Layout}
-use Rattle.manual.proofs.OneDescent.{Either, Torn, walkDescent, walk-descends, manualDescent, manual-descends}
+use Rattle.manual.proofs.OneDescent.{Either, Torn, walk_descent, walk_descends, manual_descent, manual_descends}
 use Rattle.manual.specs.Translation.{Machine, Access}
 use Rattle.walk.specs.Walk.{walk_of}
 use Rattle.window_reach.specs.Granted.{granted}
@@ -28,24 +28,24 @@ pub record Lawful {A : Type 0} (r : Reader A) : Type 0 where
       ((i : ℕ) → ws 2 i ≡ 0) → r.gives (l1 ∷ others) ws x ≡ r.nothing
   pub grants :
       (l : Layout) (base sup : List ℕ) (words : Words) (x : ℕ) →
-      Guarded boardLimit base sup l →
-      ((i : ℕ) → i < arenaLength → words i ≡ target l base sup i) →
-      r.gives (addressesOf l) (λ n. words) x ≡ r.reaching (granted l base sup x)
+      Guarded board_limit base sup l →
+      ((i : ℕ) → i < arena_length → words i ≡ target l base sup i) →
+      r.gives (addresses_of l) (λ n. words) x ≡ r.reaching (granted l base sup x)
 
-pub walk-lawful : Lawful theWalk
-walk-lawful =
+pub walk_lawful : Lawful the_walk
+walk_lawful =
     record {
-      torn = reads-torn walkDescent walk_of walk-descends;
-      same = reads_same walkDescent walk_of walk-descends;
-      zeros = reads-zeros walkDescent walk_of walk-descends;
+      torn = reads_torn walk_descent walk_of walk_descends;
+      same = reads_same walk_descent walk_of walk_descends;
+      zeros = reads_zeros walk_descent walk_of walk_descends;
       grants = λ l base sup words x g is. (reaches_whole l base sup words g is x).walks;
     }
 
-pub manual-lawful : (m : Machine) (a : Access) → Lawful (theManual m a)
-manual-lawful m a =
+pub manual_lawful : (m : Machine) (a : Access) → Lawful (the_manual m a)
+manual_lawful m a =
     record {
-      torn = reads-torn (manualDescent m a) (theManual m a).gives (manual-descends m a);
-      same = reads_same (manualDescent m a) (theManual m a).gives (manual-descends m a);
-      zeros = reads-zeros (manualDescent m a) (theManual m a).gives (manual-descends m a);
+      torn = reads_torn (manual_descent m a) (the_manual m a).gives (manual_descends m a);
+      same = reads_same (manual_descent m a) (the_manual m a).gives (manual_descends m a);
+      zeros = reads_zeros (manual_descent m a) (the_manual m a).gives (manual_descends m a);
       grants = λ l base sup words x g is. (reaches_whole l base sup words g is x).translates m a;
     }

@@ -19,10 +19,10 @@ module _
     {A : Type 0} (r : Descent A) (reads : List ℕ → (ℕ → Words) → ℕ → A)
     (descends : (tables : List ℕ) (ws : ℕ → Words) (x : ℕ) → reads tables ws x ≡ answer r tables x ws)
   where
-    pub reads-torn :
+    pub reads_torn :
         (tables : List ℕ) (ws : ℕ → Words) (whole : Words) (x : ℕ) → EachRead (λ n. Torn (ws n) whole) →
         Either (reads tables ws x) (reads tables (λ n. whole) x) r.nothing
-    reads-torn tables ws whole x t =
+    reads_torn tables ws whole x t =
         along (descends tables ws x) (towards (sym (descends tables (λ n. whole) x)) (torn r x tables ws whole t))
 
     pub reads_same :
@@ -31,6 +31,6 @@ module _
     reads_same tables ws whole x e =
         descends tables ws x ∙ same r tables x ws (λ n. whole) e ∙ sym (descends tables (λ n. whole) x)
 
-    pub reads-zeros :
+    pub reads_zeros :
         (l1 : ℕ) (others : List ℕ) (ws : ℕ → Words) (x : ℕ) → ((i : ℕ) → ws 2 i ≡ 0) → reads (l1 ∷ others) ws x ≡ r.nothing
-    reads-zeros l1 others ws x z = descends (l1 ∷ others) ws x ∙ zeros r x l1 others ws z
+    reads_zeros l1 others ws x z = descends (l1 ∷ others) ws x ∙ zeros r x l1 others ws z

@@ -1,7 +1,7 @@
 -- The cuts that document 01 ("Update") puts in an update are cuts that demand 3 speaks of.
 use Rattle.std.specs.Prelude.{ℕ, suc, ◌+◌, ◌≤◌, List, [], ◌∷◌, ◌++◌, ◌≡◌, length, take}
 use Rattle.refusal.specs.Table.{Outcome, accepted, refused}
-use Rattle.demand_3.specs.Cuts.{full, Step, Cut, start, answered, stepped, cutAfter, EachStep, In}
+use Rattle.demand_3.specs.Cuts.{full, Step, Cut, start, answered, stepped, cut_after, EachStep, In}
 use Rattle.demand_3.specs.Sources.{Source}
 
 -- how many of the steps store
@@ -20,25 +20,25 @@ NoneStores c steps = EachStep (λ d s. answered d s ≡ accepted → ⊥) c step
 -- it none that stores has number 0
 module _ (words : List ℕ) (before idle : List Step) (zeroth : Step) (rest : List Step) where
   abbrev pub found : Cut
-  found = cutAfter words (before ++ idle) (length (before ++ idle))
+  found = cut_after words (before ++ idle) (length (before ++ idle))
 
   pub record Update : Type 0 where
-    pub none-stores : NoneStores (cutAfter words before (length before)) idle
-    pub zeroth-kind : zeroth.kind ≡ full 0
+    pub none_stores : NoneStores (cut_after words before (length before)) idle
+    pub zeroth_kind : zeroth.kind ≡ full 0
     pub stores : answered found zeroth ≡ accepted
     pub no_other : EachStep (λ d s. answered d s ≡ accepted → s.kind ≡ full 0 → ⊥) (stepped found zeroth) rest
 
   module _ (later : List Step) where
-    abbrev pub allSteps : List Step
-    allSteps = before ++ (idle ++ (zeroth ∷ (rest ++ later)))
+    abbrev pub all_steps : List Step
+    all_steps = before ++ (idle ++ (zeroth ∷ (rest ++ later)))
 
     -- in any list that has the update, the cuts before step 0 are its own with k 0, and those since with k the number of stores
     pub record Belong : Type 0 where
-      pub before-it :
-          (n : ℕ) → n ≤ length idle → In found.words zeroth.source (cutAfter words allSteps (length before + n)) 0
+      pub before_it :
+          (n : ℕ) → n ≤ length idle → In found.words zeroth.source (cut_after words all_steps (length before + n)) 0
       pub since :
           (n : ℕ) → n ≤ length rest →
-          In found.words zeroth.source (cutAfter words allSteps (length before + (length idle + suc n)))
+          In found.words zeroth.source (cut_after words all_steps (length before + (length idle + suc n)))
           (suc (stores_of (stepped found zeroth) (take n rest)))
 
 abbrev pub CutsBelong : Type 0
@@ -50,4 +50,4 @@ CutsBelong =
 abbrev pub BeforeAny : Type 0
 BeforeAny =
     (words : List ℕ) (steps : List Step) → NoneStores (start words) steps →
-    (source : Source) (n : ℕ) → In words source (cutAfter words steps n) 0
+    (source : Source) (n : ℕ) → In words source (cut_after words steps n) 0

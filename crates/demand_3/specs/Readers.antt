@@ -16,8 +16,8 @@ pub record Reader (A : Type 0) : Type 0 where
   pub nothing : A
   pub reaching : Reached → A
 
-abbrev pub theWalk : Reader Reached
-theWalk = record { gives = walk_of; nothing = Nothing; reaching = λ r. r }
+abbrev pub the_walk : Reader Reached
+the_walk = record { gives = walk_of; nothing = Nothing; reaching = λ r. r }
 
-abbrev pub theManual : Machine → Access → Reader Translated
-theManual m a = record { gives = λ tables ws x. translation m tables ws a x; nothing = fault; reaching = allowed a }
+abbrev pub the_manual : Machine → Access → Reader Translated
+the_manual m a = record { gives = λ tables ws x. translation m tables ws a x; nothing = fault; reaching = allowed a }

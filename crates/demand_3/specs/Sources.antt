@@ -1,7 +1,7 @@
 -- What grants: a source, the maps that are filled from it, and its granted answer, by document 01 ("Update").
 use Rattle.std.specs.Prelude.{ℕ, List, ◌≡◌}
 use Rattle.edge.specs.declared.Edge.{Edge}
-use Rattle.filling.specs.Filling.{Filling, filling, filledInto, filled}
+use Rattle.filling.specs.Filling.{Filling, filling, filled_into, filled}
 use Rattle.layout.specs.Size.{entries}
 use Rattle.layout.specs.declared.Layout.{Layout}
 use Rattle.reach.specs.declared.Reached.{Reached}
@@ -16,14 +16,14 @@ pub record Source : Type 0 where
   pub layout : Layout
 
 -- edges grant by the entries that the filling rule gives, in maps of 512
-abbrev pub mapsOf : Source → Filling
-mapsOf s = filledInto s.frames s.domain s.edges entries entries
+abbrev pub maps_of : Source → Filling
+maps_of s = filled_into s.frames s.domain s.edges entries entries
 
-abbrev pub grantedFrom : Source → ℕ → Reached
-grantedFrom s x = granted s.layout (mapsOf s).base (mapsOf s).sup x
+abbrev pub granted_from : Source → ℕ → Reached
+granted_from s x = granted s.layout (maps_of s).base (maps_of s).sup x
 
 -- maps that are filled from the source, accepted, whatever was lent to the filling
 pub record FilledFrom (s : Source) (base sup : List ℕ) : Type 0 where
-  pub lent-base : List ℕ
-  pub lent-sup : List ℕ
-  pub fills : filled s.frames s.domain s.edges lent-base lent-sup ≡ filling base sup accepted
+  pub lent_base : List ℕ
+  pub lent_sup : List ℕ
+  pub fills : filled s.frames s.domain s.edges lent_base lent_sup ≡ filling base sup accepted

@@ -4,20 +4,20 @@ use mathlib.Core.Path.{refl}
 use Rattle.memtype.specs.declared.MemoryType.TheVariants.{NormalWbIsh}
 use Rattle.perm.specs.declared.Perm.TheVariants.{Ro, Rw, Rx}
 use Rattle.perm.specs.declared.Perm.{Perm}
-use Rattle.desc.specs.Descriptor.{blockType, pageType}
-use Rattle.desc.specs.WordFields.{Exactly, leafFields, WordFields}
-use Rattle.desc.specs.Words.{pageWord, blockWord, leafAccessXn}
+use Rattle.desc.specs.Descriptor.{block_type, page_type}
+use Rattle.desc.specs.WordFields.{Exactly, leaf_fields, WordFields}
+use Rattle.desc.specs.Words.{page_word, block_word, leaf_access_xn}
 
-page-fields : (p : Perm) → Exactly (pageWord p) (leafFields pageType NormalWbIsh (leafAccessXn p false))
-page-fields Ro = (refl, refl)
-page-fields Rw = (refl, refl)
-page-fields Rx = (refl, refl)
+page_fields : (p : Perm) → Exactly (page_word p) (leaf_fields page_type NormalWbIsh (leaf_access_xn p false))
+page_fields Ro = (refl, refl)
+page_fields Rw = (refl, refl)
+page_fields Rx = (refl, refl)
 
-block-fields : (p : Perm) (e : Bool) → Exactly (blockWord p e) (leafFields blockType NormalWbIsh (leafAccessXn p e))
-block-fields Ro e = (refl, refl)
-block-fields Rw true = (refl, refl)
-block-fields Rw false = (refl, refl)
-block-fields Rx e = (refl, refl)
+block_fields : (p : Perm) (e : Bool) → Exactly (block_word p e) (leaf_fields block_type NormalWbIsh (leaf_access_xn p e))
+block_fields Ro e = (refl, refl)
+block_fields Rw true = (refl, refl)
+block_fields Rw false = (refl, refl)
+block_fields Rx e = (refl, refl)
 
 pub word_fields : WordFields
-word_fields = record { table = (refl, refl); page = page-fields; block = block-fields; image = (refl, refl); device = (refl, refl) }
+word_fields = record { table = (refl, refl); page = page_fields; block = block_fields; image = (refl, refl); device = (refl, refl) }

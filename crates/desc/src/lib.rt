@@ -1,6 +1,6 @@
 // AArch64 stage-2 descriptors at a 4 KB granule (hv-s2's arm64.rs): the words that are emitted.
 ghost use Rattle.std.specs.Prelude.{◌≡◌};
-ghost use Rattle.desc.specs.Words.{tableWord, pageWord, blockWord, imageWord, deviceWord, leafAccessXn};
+ghost use Rattle.desc.specs.Words.{table_word, page_word, block_word, image_word, device_word, leaf_access_xn};
 
 use perm::Perm;
 
@@ -53,7 +53,7 @@ pub const BLOCK_DEVICE: u64 = BLOCK | AF | S2AP_RW | XN;
 
 // What a leaf of this permission decodes to. The exemption alters only Rw.
 pub fn leaf_access_xn(perm: Perm, wx_exempt: bool) -> AccessXn
-    ensures { result ≡ leafAccessXn perm wx_exempt }
+    ensures { result ≡ leaf_access_xn perm wx_exempt }
 {
     match perm {
         Perm::Ro => AccessXn {
@@ -72,13 +72,13 @@ pub fn leaf_access_xn(perm: Perm, wx_exempt: bool) -> AccessXn
 }
 
 pub fn table_attrs() -> u64
-    ensures { result ≡ tableWord }
+    ensures { result ≡ table_word }
 {
     TABLE
 }
 
 pub fn page_leaf_attrs(perm: Perm) -> u64
-    ensures { result ≡ pageWord perm }
+    ensures { result ≡ page_word perm }
 {
     match perm {
         Perm::Rw => PAGE_RW,
@@ -88,7 +88,7 @@ pub fn page_leaf_attrs(perm: Perm) -> u64
 }
 
 pub fn block_leaf_attrs(perm: Perm, wx_exempt: bool) -> u64
-    ensures { result ≡ blockWord perm wx_exempt }
+    ensures { result ≡ block_word perm wx_exempt }
 {
     match perm {
         Perm::Rw => { if wx_exempt { BLOCK_RW_X } else { BLOCK_RW } }
@@ -98,13 +98,13 @@ pub fn block_leaf_attrs(perm: Perm, wx_exempt: bool) -> u64
 }
 
 pub fn image_leaf_attrs() -> u64
-    ensures { result ≡ imageWord }
+    ensures { result ≡ image_word }
 {
     BLOCK_ROX
 }
 
 pub fn device_leaf_attrs() -> u64
-    ensures { result ≡ deviceWord }
+    ensures { result ≡ device_word }
 {
     BLOCK_DEVICE
 }

@@ -6,18 +6,18 @@ use native.Mathlib.Numerals.{add-one}
 use lib.Dec.{eqb}
 use lib.ListN.{length, get_or, drop, drop_of_length-le}
 use lib.Seq.{drop-cons}
-use Rattle.descent.specs.Descent.{Words, fetchFrom}
+use Rattle.descent.specs.Descent.{Words, fetch_from}
 use Rattle.fields.specs.Named.{pick}
 use Rattle.layout.specs.Size.{entries}
 
 module _ (from outside : ℕ) (tables : List ℕ) (t : ℕ) (words : Words) (named j : ℕ) where
-  pub fetch-at :
+  pub fetch_at :
       t < length tables →
-      fetchFrom from outside (drop t tables) words named j
-      ≡ pick (eqb (get_or tables t 0) named) (words (from + j)) (fetchFrom (from + entries) outside (drop (t + 1) tables) words named j)
-  unfolding fetchFrom
-  fetch-at inside = rw (add-one, drop-cons tables t 0)
+      fetch_from from outside (drop t tables) words named j
+      ≡ pick (eqb (get_or tables t 0) named) (words (from + j)) (fetch_from (from + entries) outside (drop (t + 1) tables) words named j)
+  unfolding fetch_from
+  fetch_at inside = rw (add-one, drop-cons tables t 0)
 
-  pub fetch-end : length tables ≤ t → fetchFrom from outside (drop t tables) words named j ≡ outside
-  unfolding fetchFrom
-  fetch-end past = rw (drop_of_length-le tables past)
+  pub fetch_end : length tables ≤ t → fetch_from from outside (drop t tables) words named j ≡ outside
+  unfolding fetch_from
+  fetch_end past = rw (drop_of_length-le tables past)

@@ -1,6 +1,6 @@
 -- How the code carries a stop: as one number.
 use Rattle.std.specs.Prelude.{ℕ, ◌*◌, ◌/◌, ◌%◌, eqb}
-use Rattle.desc.specs.Descriptor.{descriptorType, blockType, pageType}
+use Rattle.desc.specs.Descriptor.{descriptor_type, block_type, page_type}
 use Rattle.descent.specs.declared.Stop.{Stop}
 use Rattle.descent.specs.declared.Stop.TheVariants.{Leaf, Stopped}
 use Rattle.fields.specs.Named.{pick}
@@ -12,4 +12,4 @@ packed (Stopped level) = 4 * level
 
 abbrev pub unpacked : ℕ → Stop
 unpacked n =
-    pick (eqb (descriptorType n) pageType) (Leaf 3 n) (pick (eqb (descriptorType n) blockType) (Leaf 2 n) (Stopped (n / 4 % 4)))
+    pick (eqb (descriptor_type n) page_type) (Leaf 3 n) (pick (eqb (descriptor_type n) block_type) (Leaf 2 n) (Stopped (n / 4 % 4)))

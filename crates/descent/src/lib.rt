@@ -1,6 +1,6 @@
 // The descent through the tables, from level 1 through level 2 to level 3 (hv-s2's arm64.rs, `walk`).
 ghost use Rattle.std.specs.Prelude.{◌≤◌, ◌<◌, ◌≡◌};
-ghost use Rattle.descent.specs.Descent.{index, words_of, fetch, ends_at, nextTable, through, stopOf};
+ghost use Rattle.descent.specs.Descent.{index, words_of, fetch, ends_at, next_table, through, stop_of};
 ghost use Rattle.descent.specs.Packed.{packed, unpacked};
 ghost use Rattle.layout.specs.Size.{entries};
 
@@ -16,7 +16,7 @@ pub enum Stop {
 
 // From the l1 address on. An address of 2^39 or more would wrap into the same tables, and stops at level 0.
 pub fn descend(arena: &[u64], tables: &[u64; Layout::TABLES], ipa: u64) -> Stop
-    ensures { result ≡ stopOf tables.now (λ left. words_of arena.now) ipa }
+    ensures { result ≡ stop_of tables.now (λ left. words_of arena.now) ipa }
 {
     if Layout::ADDRESSABLE <= ipa {
         return Stop::Stopped { level: 0 };
@@ -27,7 +27,7 @@ pub fn descend(arena: &[u64], tables: &[u64; Layout::TABLES], ipa: u64) -> Stop
 
 // The table that an entry's word leads to.
 pub fn next_table(word: u64) -> DecodedTable
-    ensures { result ≡ nextTable word }
+    ensures { result ≡ next_table word }
 {
     decode::decode_table(word)
 }

@@ -12,15 +12,15 @@ use Rattle.dump.specs.Pieces.{alone, piece_at}
 use Rattle.dump.specs.declared.Answer.TheVariants.{Words}
 
 -- no byte is put
-pub none-put : (old : List ℕ) → Puts [] old 0 old
-none-put old = record { long = refl; bytes = refl }
+pub none_put : (old : List ℕ) → Puts [] old 0 old
+none_put old = record { long = refl; bytes = refl }
 
 module _ (line : List ℕ) (i : ℕ) where
-  pub alone-first : i ≡ 0 → alone i line ≡ line
-  alone-first e = rw (eq-eqb i 0 e)
+  pub alone_first : i ≡ 0 → alone i line ≡ line
+  alone_first e = rw (eq-eqb i 0 e)
 
-  pub alone-later : (i ≡ 0 → ⊥) → alone i line ≡ []
-  alone-later e = rw (ne_eqb i 0 e)
+  pub alone_later : (i ≡ 0 → ⊥) → alone i line ≡ []
+  alone_later e = rw (ne_eqb i 0 e)
 
 module _ (words : List ℕ) (i : ℕ) where
   pub zero_word : get_or words i 0 ≡ 0 → piece_at Words words i ≡ []
@@ -30,6 +30,6 @@ module _ (words : List ℕ) (i : ℕ) where
   pub past_words : length words ≤ i → piece_at Words words i ≡ []
   past_words h = zero_word (get_or-eq_default words 0 h)
 
-  pub nonzero-word : (get_or words i 0 ≡ 0 → ⊥) → piece_at Words words i ≡ word_line (table_of i) (index_of i) (get_or words i 0)
+  pub nonzero_word : (get_or words i 0 ≡ 0 → ⊥) → piece_at Words words i ≡ word_line (table_of i) (index_of i) (get_or words i 0)
   unfolding piece_at line_at
-  nonzero-word e = rw (ne_eqb (get_or words i 0) 0 e)
+  nonzero_word e = rw (ne_eqb (get_or words i 0) 0 e)

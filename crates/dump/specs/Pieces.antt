@@ -1,8 +1,8 @@
 -- The same piece by piece: what the code answers, and the bytes that it puts out for each word of the arena.
 use Rattle.std.specs.Prelude.{ℕ, List, [], eqb, get_or, length}
 use Rattle.fields.specs.Named.{pick}
-use Rattle.printed.specs.Line.{badLine, refusedLine}
-use Rattle.dump.specs.Dump.{inOrder, line_at}
+use Rattle.printed.specs.Line.{bad_line, refused_line}
+use Rattle.dump.specs.Dump.{in_order, line_at}
 use Rattle.dump.specs.declared.Answer.{Answer}
 use Rattle.dump.specs.declared.Answer.TheVariants.{BadLine, Refused, Words}
 
@@ -11,10 +11,10 @@ abbrev pub alone : ℕ → List ℕ → List ℕ
 alone i line = pick (eqb i 0) line []
 
 unfoldable pub piece_at : Answer → List ℕ → ℕ → List ℕ
-piece_at BadLine words i = alone i badLine
-piece_at (Refused number) words i = alone i (refusedLine number)
+piece_at BadLine words i = alone i bad_line
+piece_at (Refused number) words i = alone i (refused_line number)
 piece_at Words words i = line_at i (get_or words i 0)
 
 -- a piece for each word
 abbrev pub pieces : Answer → List ℕ → List ℕ
-pieces answer words = inOrder (piece_at answer words) 0 (length words)
+pieces answer words = in_order (piece_at answer words) 0 (length words)

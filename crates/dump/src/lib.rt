@@ -1,6 +1,6 @@
 // What is printed of a scene (document 01, "Proved and printed").
 ghost use Rattle.std.specs.Prelude.{◌≡◌};
-ghost use Rattle.dump.specs.Dump.{printedOf, printedRead};
+ghost use Rattle.dump.specs.Dump.{printed_of, printed_read};
 ghost use Rattle.dump.specs.Pieces.{piece_at, pieces};
 ghost use Rattle.dump.specs.declared.Answer.TheVariants.{Words};
 ghost use Rattle.printed.specs.Line.{Puts};
@@ -29,7 +29,7 @@ impl Dump {
     // Of a scene's numbers and maps; `said` is whether every line said something.
     pub fn of(said: bool, numbers: &[u64; Layout::NUMBERS], base: &[u8], sup: &[u8]) -> Self
         ensures { pieces result.answer result.words
-            ≡ printedRead (read_of said (scene numbers.now base.now sup.now)) }
+            ≡ printed_read (read_of said (scene numbers.now base.now sup.now)) }
     {
         if said {
             return Self::encoded(numbers, base, sup);
@@ -43,7 +43,7 @@ impl Dump {
 
     // Tables and outputs lie below 2^48: a limit of the dump's own.
     fn encoded(numbers: &[u64; Layout::NUMBERS], base: &[u8], sup: &[u8]) -> Self
-        ensures { pieces result.answer result.words ≡ printedOf (scene numbers.now base.now sup.now) }
+        ensures { pieces result.answer result.words ≡ printed_of (scene numbers.now base.now sup.now) }
     {
         let mut words = [0; Layout::ARENA_LEN];
         let l = layout_numbers::layout_of(numbers);

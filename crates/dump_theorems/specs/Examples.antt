@@ -10,8 +10,8 @@ bytes [] = []
 bytes (line ∷ lines) = ascii line ++ bytes lines
 
 -- 'S's lines are'
-abbrev pub linesOfS : List String
-linesOfS =
+abbrev pub lines_of_s : List String
+lines_of_s =
     "L 1 40000000\n"
     ∷ "L 2 40001000\n"
     ∷ "L 3 40002000\n"
@@ -31,8 +31,8 @@ linesOfS =
     ∷ []
 
 -- 'They print'
-abbrev pub printedOfS : List String
-printedOfS =
+abbrev pub printed_of_s : List String
+printed_of_s =
     "1 000 0000000040005003\n"
     ∷ "1 002 0000000040002003\n"
     ∷ "1 003 0000000040004003\n"
@@ -43,30 +43,30 @@ printedOfS =
     ∷ []
 
 abbrev pub DumpS : Type 0
-DumpS = dump (bytes linesOfS) ≡ bytes printedOfS
+DumpS = dump (bytes lines_of_s) ≡ bytes printed_of_s
 
 pub record DumpExamples : Type 0 where
   -- 'empty input is refused by 5'
   pub empty : dump [] ≡ ascii "REFUSED 5\n"
   -- a row's number of two digits: data pa 2^48
-  pub two_digits : dump (bytes linesOfS ++ ascii "L 9 1000000000000\n") ≡ ascii "REFUSED 10\n"
+  pub two_digits : dump (bytes lines_of_s ++ ascii "L 9 1000000000000\n") ≡ ascii "REFUSED 10\n"
   -- the last output below it
-  pub last-output :
-      dump (bytes linesOfS ++ ascii "L 9 FFFFFFE00000\n")
-      ≡ bytes (take 4 printedOfS ++ ("4 001 0040FFFFFFE017FF\n" ∷ drop 5 printedOfS))
+  pub last_output :
+      dump (bytes lines_of_s ++ ascii "L 9 FFFFFFE00000\n")
+      ≡ bytes (take 4 printed_of_s ++ ("4 001 0040FFFFFFE017FF\n" ∷ drop 5 printed_of_s))
   -- 'a later line replaces an earlier one', and 'the last line may lack' its line feed
-  pub later-line : dump (ascii "L 1 1\n" ++ (bytes linesOfS ++ ascii "B 1 2")) ≡ bytes printedOfS
+  pub later_line : dump (ascii "L 1 1\n" ++ (bytes lines_of_s ++ ascii "B 1 2")) ≡ bytes printed_of_s
   -- 'A line outside this form prints BAD LINE and ends'
-  pub bad : dump (bytes linesOfS ++ ascii "L 11 0\n") ≡ ascii "BAD LINE\n"
-  pub empty-line : dump (ascii "\n" ++ bytes linesOfS) ≡ ascii "BAD LINE\n"
+  pub bad : dump (bytes lines_of_s ++ ascii "L 11 0\n") ≡ ascii "BAD LINE\n"
+  pub empty_line : dump (ascii "\n" ++ bytes lines_of_s) ≡ ascii "BAD LINE\n"
   -- 'position at most 1FF, code at most 3', 'the exemption 0 or 1'
-  pub last-position : dump (bytes linesOfS ++ ascii "B 1FF 0\nU 1FF 0\nL F 0\n") ≡ bytes printedOfS
+  pub last_position : dump (bytes lines_of_s ++ ascii "B 1FF 0\nU 1FF 0\nL F 0\n") ≡ bytes printed_of_s
   pub position : dump (ascii "B 200 2\n") ≡ ascii "BAD LINE\n"
-  pub super-position : dump (ascii "U 200 0\n") ≡ ascii "BAD LINE\n"
+  pub super_position : dump (ascii "U 200 0\n") ≡ ascii "BAD LINE\n"
   pub code : dump (ascii "B 0 4\n") ≡ ascii "BAD LINE\n"
   pub exemption : dump (ascii "L F 2\n") ≡ ascii "BAD LINE\n"
   -- 'Numbers are 1 to 16 digits, upper case, with one space between'
-  pub sixteen-digits : dump (bytes linesOfS ++ ascii "B 0000000000000001 2\n") ≡ bytes printedOfS
-  pub seventeen-digits : dump (ascii "B 00000000000000001 2\n") ≡ ascii "BAD LINE\n"
-  pub lower-case : dump (ascii "L a 1000\n") ≡ ascii "BAD LINE\n"
-  pub two-spaces : dump (ascii "L A  1000\n") ≡ ascii "BAD LINE\n"
+  pub sixteen_digits : dump (bytes lines_of_s ++ ascii "B 0000000000000001 2\n") ≡ bytes printed_of_s
+  pub seventeen_digits : dump (ascii "B 00000000000000001 2\n") ≡ ascii "BAD LINE\n"
+  pub lower_case : dump (ascii "L a 1000\n") ≡ ascii "BAD LINE\n"
+  pub two_spaces : dump (ascii "L A  1000\n") ≡ ascii "BAD LINE\n"

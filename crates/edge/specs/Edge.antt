@@ -2,10 +2,10 @@
 use Rattle.std.specs.Prelude.{ℕ, Bool, false, ◌&&◌, List, map, eqb, get_or}
 use Rattle.fields.specs.Named.{pick}
 use Rattle.fields.specs.Numbers.{nonzero}
-use Rattle.p2m.specs.Frame.{ownerOf}
+use Rattle.p2m.specs.Frame.{owner_of}
 use Rattle.p2m.specs.declared.Owner.{Owner}
 use Rattle.p2m.specs.declared.Owner.TheVariants.{Domain, Nobody}
-use Rattle.perm.specs.Perm.{permCode}
+use Rattle.perm.specs.Perm.{perm_code}
 use Rattle.perm.specs.declared.Perm.{Perm}
 use Rattle.perm.specs.declared.Perm.TheVariants.{Ro, Rw, Rx}
 use Rattle.edge.specs.declared.Edge.{Edge}
@@ -23,8 +23,8 @@ edge_of x =
     }
 
 -- edges that are lent as rows of their fields
-abbrev pub edgesOf : List (List ℕ) → List Edge
-edgesOf rows = map edge_of rows
+abbrev pub edges_of : List (List ℕ) → List Edge
+edges_of rows = map edge_of rows
 
 -- writable with execute gives Rw
 abbrev pub perm_of : Edge → Perm
@@ -32,7 +32,7 @@ perm_of e = pick e.writable Rw (pick e.execute Rx Ro)
 
 -- the entry that an edge gives its child
 abbrev pub entry_of : Edge → ℕ
-entry_of e = permCode (perm_of e)
+entry_of e = perm_code (perm_of e)
 
 abbrev pub owned_by : ℕ → Owner → Bool
 owned_by dom (Domain owner) = eqb owner dom
@@ -40,7 +40,7 @@ owned_by dom Nobody = false
 
 -- the domain owns the frame
 unfoldable pub owns : List (List ℕ) → ℕ → ℕ → Bool
-owns frames dom m = owned_by dom (ownerOf frames m)
+owns frames dom m = owned_by dom (owner_of frames m)
 
 -- non-leaf edges and edges whose parent the domain doesn't own are skipped; the others count
 unfoldable pub counts : List (List ℕ) → ℕ → Edge → Bool

@@ -1,14 +1,14 @@
 // The words that the machine walks (hv-s2's arm64.rs, `encode`).
 ghost use Rattle.std.specs.Prelude.{ℕ, ◌+◌, ◌*◌, ◌/◌, ◌≤◌, ◌<◌, [], ◌∷◌, map, ◌≡◌, length, get_or};
-ghost use Rattle.arena.specs.Encoded.{run, one, stored, pageAt, superAt, superRun, deviceRun, imageRun, areaRun, upperRuns, leafRuns};
+ghost use Rattle.arena.specs.Encoded.{run, one, stored, page_at, super_at, super_run, device_run, image_run, area_run, upper_runs, leaf_runs};
 ghost use Rattle.arena.specs.Encoded.{cleared, encoded};
 ghost use Rattle.arena.specs.Over.{Over};
 ghost use Rattle.encode.specs.Encoding.{Encoding};
 ghost use Rattle.encode.specs.Fits.{SupersFit, DeviceFits};
-ghost use Rattle.layout.specs.Size.{entries, boardLimit, tableCount, arenaLength};
-ghost use Rattle.layout.specs.Window.{devicesOf};
+ghost use Rattle.layout.specs.Size.{entries, board_limit, table_count, arena_length};
+ghost use Rattle.layout.specs.Window.{devices_of};
 ghost use Rattle.refusal.specs.All.{All};
-ghost use Rattle.refusal.specs.Outcome.{outcomeOf};
+ghost use Rattle.refusal.specs.Outcome.{outcome_of};
 
 use areas::Area;
 use layout::{Layout, Window};
@@ -16,14 +16,14 @@ use refusal::Verdict;
 
 // Rows 1 to 14 come before the first store.
 pub fn encode(arena: &mut [u64], base: &[u8], sup: &[u8], l: Layout) -> Verdict
-    ensures { Encoding boardLimit l base.now sup.now arena.old (outcomeOf result) arena.new }
+    ensures { Encoding board_limit l base.now sup.now arena.old (outcome_of result) arena.new }
 {
     encode_at(Layout::BOARD_LIMIT, arena, base, sup, l)
 }
 
 // The same where tables and outputs lie below a limit of the caller's.
 pub fn encode_at(limit: u64, arena: &mut [u64], base: &[u8], sup: &[u8], l: Layout) -> Verdict
-    ensures { Encoding limit l base.now sup.now arena.old (outcomeOf result) arena.new }
+    ensures { Encoding limit l base.now sup.now arena.old (outcome_of result) arena.new }
 {
     let verdict = guard::guard_at(limit, arena, base, sup, l);
     let Verdict::Accepted = verdict else {
@@ -35,10 +35,10 @@ pub fn encode_at(limit: u64, arena: &mut [u64], base: &[u8], sup: &[u8], l: Layo
 
 // What rows 1 to 14 have let by. Tables 1 to 3 are not cleared: an old word remains unless overwritten.
 fn encode_guarded(arena: &mut [u64], base: &[u8], sup: &[u8], l: Layout)
-    requires arena_len { length arena.old ≡ arenaLength }
+    requires arena_len { length arena.old ≡ arena_length }
     requires base_len_bound { length base.now ≤ entries }
     requires supers_fit { SupersFit l sup.now }
-    requires all { All DeviceFits (devicesOf l) }
+    requires all { All DeviceFits (devices_of l) }
     ensures { Over (encoded l base.now sup.now) arena.old arena.new }
 {
     clear(arena);
@@ -48,7 +48,7 @@ fn encode_guarded(arena: &mut [u64], base: &[u8], sup: &[u8], l: Layout)
 
 // Table 4 and on whole, so that no leaf of another guest remains.
 fn clear(arena: &mut [u64])
-    requires { length arena.old ≡ arenaLength }
+    requires { length arena.old ≡ arena_length }
     ensures { Over cleared arena.old arena.new }
 {
     for i in 3 * Layout::ENTRIES..Layout::ARENA_LEN {
@@ -58,8 +58,8 @@ fn clear(arena: &mut [u64])
 
 // Tables 1 to 3.
 fn encode_upper(arena: &mut [u64], l: Layout)
-    requires { length arena.old ≡ arenaLength }
-    ensures { Over (stored (upperRuns l)) arena.old arena.new }
+    requires { length arena.old ≡ arena_length }
+    ensures { Over (stored (upper_runs l)) arena.old arena.new }
 {
     put_areas(arena, areas::areas(l));
     put_image(arena, l);
@@ -69,11 +69,11 @@ fn encode_upper(arena: &mut [u64], l: Layout)
 
 // Table 4 and on.
 fn encode_leaves(arena: &mut [u64], base: &[u8], sup: &[u8], l: Layout)
-    requires arena_len { length arena.old ≡ arenaLength }
+    requires arena_len { length arena.old ≡ arena_length }
     requires base_len_bound { length base.now ≤ entries }
     requires supers_fit { SupersFit l sup.now }
-    requires all { All DeviceFits (devicesOf l) }
-    ensures { Over (stored (leafRuns l base.now sup.now)) arena.old arena.new }
+    requires all { All DeviceFits (devices_of l) }
+    ensures { Over (stored (leaf_runs l base.now sup.now)) arena.old arena.new }
 {
     put_pages(arena, base, l.data_pa_base);
     encode_super(arena, sup, l);
@@ -82,8 +82,8 @@ fn encode_leaves(arena: &mut [u64], base: &[u8], sup: &[u8], l: Layout)
 
 // Table 1.
 fn put_areas(arena: &mut [u64], areas: [Area; Layout::WINDOWS])
-    requires { length arena.old ≡ arenaLength }
-    ensures { Over (stored (map areaRun areas)) arena.old arena.new }
+    requires { length arena.old ≡ arena_length }
+    ensures { Over (stored (map area_run areas)) arena.old arena.new }
 {
     for i in 0..Layout::WINDOWS {
         put_area(arena, areas[i]);
@@ -91,8 +91,8 @@ fn put_areas(arena: &mut [u64], areas: [Area; Layout::WINDOWS])
 }
 
 fn put_area(arena: &mut [u64], a: Area)
-    requires { length arena.old ≡ arenaLength }
-    ensures { Over (stored (areaRun a ∷ [])) arena.old arena.new }
+    requires { length arena.old ≡ arena_length }
+    ensures { Over (stored (area_run a ∷ [])) arena.old arena.new }
 {
     if a.present {
         let slot = a.l1_index() as usize;
@@ -102,8 +102,8 @@ fn put_area(arena: &mut [u64], a: Area)
 
 // Table 2.
 fn put_image(arena: &mut [u64], l: Layout)
-    requires { length arena.old ≡ arenaLength }
-    ensures { Over (stored (imageRun l ∷ [])) arena.old arena.new }
+    requires { length arena.old ≡ arena_length }
+    ensures { Over (stored (image_run l ∷ [])) arena.old arena.new }
 {
     let image_pa = l.guest_image_pa;
     let image = image_pa.window();
@@ -115,9 +115,9 @@ fn put_image(arena: &mut [u64], l: Layout)
 
 // Table 5: none is mapped at or past sup_frames.
 fn encode_super(arena: &mut [u64], sup: &[u8], l: Layout)
-    requires arena_len { length arena.old ≡ arenaLength }
+    requires arena_len { length arena.old ≡ arena_length }
     requires supers_fit { SupersFit l sup.now }
-    ensures { Over (stored (superRun l sup.now ∷ [])) arena.old arena.new }
+    ensures { Over (stored (super_run l sup.now ∷ [])) arena.old arena.new }
 {
     let from = Layout::l2_index(l.sup_ipa_base) as usize;
     put_supers(arena, sup, from, l.sup_pa_base, l.sup_wx_exempt);
@@ -125,9 +125,9 @@ fn encode_super(arena: &mut [u64], sup: &[u8], l: Layout)
 
 // A word at its place, unless it is none.
 fn put(arena: &mut [u64], table: usize, index: usize, word: u64)
-    requires arena_len { length arena.old ≡ arenaLength }
+    requires arena_len { length arena.old ≡ arena_length }
     requires table_nonzero { 0 < table }
-    requires table_le_table_count { table ≤ tableCount }
+    requires table_le_table_count { table ≤ table_count }
     requires index_lt_entries { (word ≡ 0 → ⊥) → index < entries }
     ensures { Over (stored (one table index word ∷ [])) arena.old arena.new }
 {
@@ -138,9 +138,9 @@ fn put(arena: &mut [u64], table: usize, index: usize, word: u64)
 
 // Table 4: a page for each entry of the base map.
 fn put_pages(arena: &mut [u64], base: &[u8], pa: u64)
-    requires arena_len { length arena.old ≡ arenaLength }
+    requires arena_len { length arena.old ≡ arena_length }
     requires base_len_bound { length base.now ≤ entries }
-    ensures { Over (stored (run 4 0 entries (pageAt pa base.now) ∷ [])) arena.old arena.new }
+    ensures { Over (stored (run 4 0 entries (page_at pa base.now) ∷ [])) arena.old arena.new }
 {
     for m in 0..base.len() {
         put(arena, 4, m, arena::page_word(pa, m as u32, base[m]));
@@ -149,11 +149,11 @@ fn put_pages(arena: &mut [u64], base: &[u8], pa: u64)
 
 // Table 5: a block for each entry of the super map, from the window's own slot on.
 fn put_supers(arena: &mut [u64], sup: &[u8], from: usize, pa: u64, exempt: bool)
-    requires arena_len { length arena.old ≡ arenaLength }
+    requires arena_len { length arena.old ≡ arena_length }
     requires sup_len_bound { length sup.now ≤ entries }
     requires from_lt_entries { from < entries }
     requires by_index { (p : ℕ) → p < length sup.now → (get_or sup.now p 0 ≡ 0 → ⊥) → from + p < entries }
-    ensures { Over (stored (run 5 from (length sup.now) (superAt pa exempt sup.now) ∷ [])) arena.old
+    ensures { Over (stored (run 5 from (length sup.now) (super_at pa exempt sup.now) ∷ [])) arena.old
         arena.new }
 {
     for m in 0..sup.len() {
@@ -168,11 +168,11 @@ fn put_supers(arena: &mut [u64], sup: &[u8], from: usize, pa: u64, exempt: bool)
 
 // The blocks of a device window, in its table.
 fn put_device(arena: &mut [u64], table: usize, w: Window)
-    requires arena_len { length arena.old ≡ arenaLength }
+    requires arena_len { length arena.old ≡ arena_length }
     requires table_nonzero { 0 < table }
-    requires table_le_table_count { table ≤ tableCount }
+    requires table_le_table_count { table ≤ table_count }
     requires device_fits { DeviceFits w }
-    ensures { Over (stored (deviceRun table w ∷ [])) arena.old arena.new }
+    ensures { Over (stored (device_run table w ∷ [])) arena.old arena.new }
 {
     let from = Layout::l2_index(w.ipa) as usize;
     let count = (w.span / Layout::BLOCK_SIZE) as usize;

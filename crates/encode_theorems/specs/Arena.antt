@@ -3,7 +3,7 @@ use Rattle.std.specs.Prelude.{ℕ, List, ◌≡◌, replicate}
 use Rattle.arena.specs.Encoded.{overwrite, cleared, encoded, target}
 use Rattle.arena.specs.Over.{Over}
 use Rattle.encode.specs.Encoding.{Encoding}
-use Rattle.layout.specs.Size.{arenaLength}
+use Rattle.layout.specs.Size.{arena_length}
 use Rattle.layout.specs.declared.Layout.{Layout}
 use Rattle.refusal.specs.Table.{Row, accepted, refused}
 
@@ -17,8 +17,8 @@ OldWords =
 abbrev pub FromZeros : Type 0
 FromZeros =
     (limit : ℕ) (l : Layout) (base sup new : List ℕ) →
-    Encoding limit l base sup (replicate arenaLength 0) accepted new →
-    Over (λ i old. target l base sup i) (replicate arenaLength 0) new
+    Encoding limit l base sup (replicate arena_length 0) accepted new →
+    Over (λ i old. target l base sup i) (replicate arena_length 0) new
 
 -- a refused call leaves the arena as it was
 abbrev pub RefusedKeeps : Type 0

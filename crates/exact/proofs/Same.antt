@@ -7,16 +7,16 @@ use native.Mathlib.Omega.{arith}
 use lib.ListN.{length}
 use Rattle.layout.specs.Size.{entries}
 use Rattle.lent_rows.proofs.Read.{read_length}
-use Rattle.p2m.specs.Frame.{spanCode}
+use Rattle.p2m.specs.Frame.{span_code}
 use Rattle.p2m.specs.declared.Span.{Span}
-use Rattle.refusal.specs.Table.{Row, first, eachFrom}
-use Rattle.rows.specs.Rows.{readRows}
-use Rattle.exact.specs.Exact.{row25, comparedRows}
+use Rattle.refusal.specs.Table.{Row, first, each_from}
+use Rattle.rows.specs.Rows.{read_rows}
+use Rattle.exact.specs.Exact.{row25, compared_rows}
 
 from :
     (dom : ℕ) (f g : ℕ → ℕ) (k : ℕ) (xs : List ℕ) → ((i : ℕ) → i < length xs → f (k + i) ≡ g (k + i)) →
-    eachFrom (row25 dom f) k xs ≡ eachFrom (row25 dom g) k xs
-unfolding eachFrom row25
+    each_from (row25 dom f) k xs ≡ each_from (row25 dom g) k xs
+unfolding each_from row25
 from dom f g k [] same = refl
 from dom f g k (x ∷ xs) same =
     let z : k + 0 ≡ k = omega arith in
@@ -25,20 +25,20 @@ from dom f g k (x ∷ xs) same =
 
 pub same_rows :
     (dom : ℕ) (f g : ℕ → ℕ) (xs : List ℕ) → ((i : ℕ) → i < length xs → f i ≡ g i) →
-    eachFrom (row25 dom f) 0 xs ≡ eachFrom (row25 dom g) 0 xs
+    each_from (row25 dom f) 0 xs ≡ each_from (row25 dom g) 0 xs
 same_rows dom f g xs same = from dom f g 0 xs (λ i h. let z : 0 + i ≡ i = omega arith in rw z (same i h))
 
 -- what is wanted past the longest map is not looked at either: row 2 comes first
-pub same-compared :
+pub same_compared :
     (dom : ℕ) (s : Span) (f g : ℕ → ℕ) (xs : List ℕ) → ((i : ℕ) → i < entries → f i ≡ g i) →
-    first (comparedRows dom s f xs) ≡ first (comparedRows dom s g xs)
-unfolding comparedRows flat_map first
-same-compared dom s f g xs same = go (readRows (spanCode s) xs) refl
+    first (compared_rows dom s f xs) ≡ first (compared_rows dom s g xs)
+unfolding compared_rows flat_map first
+same_compared dom s f g xs same = go (read_rows (span_code s) xs) refl
   where
     go :
-        (rs : List Row) → readRows (spanCode s) xs ≡ rs →
-        first (rs ++ (eachFrom (row25 dom f) 0 xs ++ [])) ≡ first (rs ++ (eachFrom (row25 dom g) 0 xs ++ []))
+        (rs : List Row) → read_rows (span_code s) xs ≡ rs →
+        first (rs ++ (each_from (row25 dom f) 0 xs ++ [])) ≡ first (rs ++ (each_from (row25 dom g) 0 xs ++ []))
     go [] e =
-        let short = read_length (spanCode s) xs (ap first e) in
+        let short = read_length (span_code s) xs (ap first e) in
         ap (λ es. first (es ++ [])) (same_rows dom f g xs (λ i h. same i (le_trans h short)))
     go (r ∷ rs) e = refl

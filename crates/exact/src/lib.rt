@@ -1,10 +1,10 @@
 // Whether a map is what the edges of its span give (hv-s2's check.rs).
 ghost use Rattle.std.specs.Prelude.{ℕ, ◌≤◌, ◌<◌, true, ◌≡◌, length, get_or};
-ghost use Rattle.edge.specs.Edge.{edgesOf};
-ghost use Rattle.exact.specs.Exact.{row25, comparedRows, exactRows};
-ghost use Rattle.perm.specs.Perm.{entryNamed};
-ghost use Rattle.refusal.specs.Outcome.{outcomeOf, row_of};
-ghost use Rattle.refusal.specs.Table.{refused, first, eachFrom};
+ghost use Rattle.edge.specs.Edge.{edges_of};
+ghost use Rattle.exact.specs.Exact.{row25, compared_rows, exact_rows};
+ghost use Rattle.perm.specs.Perm.{entry_named};
+ghost use Rattle.refusal.specs.Outcome.{outcome_of, row_of};
+ghost use Rattle.refusal.specs.Table.{refused, first, each_from};
 ghost use Rattle.refusal.specs.declared.Refusal.TheVariants.{Inexact};
 
 use layout::Layout;
@@ -20,7 +20,7 @@ pub fn check_exact(
     edges: &[[u32; 6]],
     frames: &[[u32; 2]],
 ) -> Verdict
-    ensures { outcomeOf result ≡ first (exactRows frames.now dom span (edgesOf edges.now) leaves.now) }
+    ensures { outcome_of result ≡ first (exact_rows frames.now dom span (edges_of edges.now) leaves.now) }
 {
     compare(
         dom,
@@ -32,7 +32,7 @@ pub fn check_exact(
 
 // Rows 2, 3 and 25: whether the map holds the entries wanted.
 pub fn compare(dom: u16, leaves: &[u8], span: Span, wanted: [u8; Layout::ENTRIES]) -> Verdict
-    ensures { outcomeOf result ≡ first (comparedRows dom span (λ m. get_or wanted m 0) leaves.now) }
+    ensures { outcome_of result ≡ first (compared_rows dom span (λ m. get_or wanted m 0) leaves.now) }
 {
     let readable = lent_rows::read_map(span.code() as u64, leaves);
     let Verdict::Accepted = readable else {
@@ -44,7 +44,7 @@ pub fn compare(dom: u16, leaves: &[u8], span: Span, wanted: [u8; Layout::ENTRIES
 // Row 25, of the lowest entry that differs. The pass that finds no position has no branch to take, and an exact map needs no other.
 fn same_entries(dom: u16, leaves: &[u8], wanted: &[u8]) -> Verdict
     requires { length leaves.now ≤ length wanted.now }
-    ensures { outcomeOf result ≡ first (eachFrom (row25 dom (λ m. get_or wanted.now m 0)) 0 leaves.now) }
+    ensures { outcome_of result ≡ first (each_from (row25 dom (λ m. get_or wanted.now m 0)) 0 leaves.now) }
 {
     if all_same(leaves, wanted) {
         return Verdict::Accepted;
@@ -60,7 +60,7 @@ fn same_entries(dom: u16, leaves: &[u8], wanted: &[u8]) -> Verdict
 }
 
 fn inexact(dom: u16, m: usize, mapped: u8, expected: u8) -> Verdict
-    ensures { outcomeOf result ≡ refused (row_of (Inexact dom m (entryNamed mapped) (entryNamed expected))) }
+    ensures { outcome_of result ≡ refused (row_of (Inexact dom m (entry_named mapped) (entry_named expected))) }
 {
     Verdict::Refused(Refusal::Inexact {
         dom: dom as u64,

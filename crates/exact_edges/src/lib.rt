@@ -1,7 +1,7 @@
 // Whether a map is what the edges of its span give, from a lent slice of edges (hv-s2's check.rs).
 ghost use Rattle.std.specs.Prelude.{◌≡◌};
-ghost use Rattle.exact.specs.Exact.{exactRows};
-ghost use Rattle.refusal.specs.Outcome.{outcomeOf};
+ghost use Rattle.exact.specs.Exact.{exact_rows};
+ghost use Rattle.refusal.specs.Outcome.{outcome_of};
 ghost use Rattle.refusal.specs.Table.{first};
 
 use edge::Edge;
@@ -16,7 +16,7 @@ pub fn check_exact(
     edges: &[Edge],
     frames: &[[u32; 2]],
 ) -> Verdict
-    ensures { outcomeOf result ≡ first (exactRows frames.now dom span edges.now leaves.now) }
+    ensures { outcome_of result ≡ first (exact_rows frames.now dom span edges.now leaves.now) }
 {
     let mut wanted = expected::unmapped();
     for i in 0..edges.len() {

@@ -1,7 +1,7 @@
 // The entries that the edges of a span give (hv-s2's check.rs).
 ghost use Rattle.std.specs.Prelude.{ℕ, ◌<◌, ◌≡◌, length, get_or, replicate};
-ghost use Rattle.edge.specs.Edge.{edgesOf};
-ghost use Rattle.expected.specs.Expected.{lands, afterEdge, expected};
+ghost use Rattle.edge.specs.Edge.{edges_of};
+ghost use Rattle.expected.specs.Expected.{lands, after_edge, expected};
 ghost use Rattle.layout.specs.Size.{entries};
 
 use edge::Edge;
@@ -15,7 +15,7 @@ pub fn expected_entries(
     edges: &[[u32; 6]],
     frames: &[[u32; 2]],
 ) -> [u8; Layout::ENTRIES]
-    ensures { (m : ℕ) → m < entries → get_or result m 0 ≡ expected frames.now dom span (edgesOf edges.now) m }
+    ensures { (m : ℕ) → m < entries → get_or result m 0 ≡ expected frames.now dom span (edges_of edges.now) m }
 {
     let mut wanted = unmapped();
     for i in 0..edges.len() {
@@ -34,7 +34,7 @@ pub fn unmapped() -> [u8; Layout::ENTRIES]
 // The entries after one edge more.
 pub fn note(wanted: &mut [u8], e: Edge, dom: u16, span: Span, frames: &[[u32; 2]])
     ensures { (m : ℕ) → m < length wanted.old
-        → get_or wanted.new m 0 ≡ afterEdge frames.now dom span m (get_or wanted.old m 0) e }
+        → get_or wanted.new m 0 ≡ after_edge frames.now dom span m (get_or wanted.old m 0) e }
 {
     let child = e.child as usize;
     if child < wanted.len() {

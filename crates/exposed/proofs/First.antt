@@ -8,32 +8,32 @@ use lib.Seq.{drop-cons}
 use Rattle.fields.specs.Named.{pick}
 use Rattle.layout.specs.declared.Table.{Table}
 use Rattle.layout.specs.declared.Window.{Window}
-use Rattle.exposed.specs.Exposed.{liesIn, firstWindow, or_else, firstTable}
+use Rattle.exposed.specs.Exposed.{lies_in, first_window, or_else, first_table}
 use Rattle.exposed.specs.declared.Exposure.{Exposure}
 use Rattle.exposed.specs.declared.Exposure.TheVariants.{Table as Lies, Nothing}
 
 module _ (t : Table) (ws : List Window) (i : ℕ) where
-  pub window-at :
+  pub window_at_lem :
       (d : Window) → i < length ws →
-      firstWindow t (drop i ws)
-      ≡ pick (liesIn t (get_or ws i d)) (Lies t.code (get_or ws i d).code) (firstWindow t (drop (i + 1) ws))
-  unfolding firstWindow
-  window-at d inside = rw (add-one, drop-cons ws i d)
+      first_window t (drop i ws)
+      ≡ pick (lies_in t (get_or ws i d)) (Lies t.code (get_or ws i d).code) (first_window t (drop (i + 1) ws))
+  unfolding first_window
+  window_at_lem d inside = rw (add-one, drop-cons ws i d)
 
-  pub window-end : length ws ≤ i → firstWindow t (drop i ws) ≡ Nothing
-  unfolding firstWindow
-  window-end past = rw (drop_of_length-le ws past)
+  pub window_end : length ws ≤ i → first_window t (drop i ws) ≡ Nothing
+  unfolding first_window
+  window_end past = rw (drop_of_length-le ws past)
 
 module _ (ts : List Table) (ws : List Window) (i : ℕ) where
   pub table_at :
       (d : Table) → i < length ts →
-      firstTable (drop i ts) ws ≡ or_else (firstWindow (get_or ts i d) ws) (firstTable (drop (i + 1) ts) ws)
-  unfolding firstTable
+      first_table (drop i ts) ws ≡ or_else (first_window (get_or ts i d) ws) (first_table (drop (i + 1) ts) ws)
+  unfolding first_table
   table_at d inside = rw (add-one, drop-cons ts i d)
 
-  pub table-end : length ts ≤ i → firstTable (drop i ts) ws ≡ Nothing
-  unfolding firstTable
-  table-end past = rw (drop_of_length-le ts past)
+  pub table_end : length ts ≤ i → first_table (drop i ts) ws ≡ Nothing
+  unfolding first_table
+  table_end past = rw (drop_of_length-le ts past)
 
 -- where a table lies in a window, that is the answer; else the tables after it decide
 module _ (e x rest : Exposure) where

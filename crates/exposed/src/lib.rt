@@ -1,9 +1,9 @@
 // Which table a guest could be given to write: no row compares tables with outputs, so board code asks.
 ghost use Rattle.std.specs.Prelude.{◌<◌, ◌≡◌};
-ghost use Rattle.exposed.specs.Exposed.{liesIn, firstWindow, firstTable, exposure, exposureValues, exposureOf};
+ghost use Rattle.exposed.specs.Exposed.{lies_in, first_window, first_table, exposure, exposure_values, exposure_of};
 ghost use Rattle.layout.specs.Size.{uncountable};
 ghost use Rattle.refusal.specs.Table.{first};
-ghost use Rattle.refusal.specs.Told.{told, after, toldWords};
+ghost use Rattle.refusal.specs.Told.{told, after, told_words};
 ghost use Rattle.rows.specs.Rows.{refusals};
 
 use layout::{Layout, SuperWindow, Table, Window};
@@ -23,7 +23,7 @@ pub enum Exposed {
 
 // Rows 4 to 12 first; then the lowest table that lies in an output window, and the lowest such window.
 pub fn exposed_table(l: Layout) -> Exposed
-    ensures { exposureOf result ≡ after (first (refusals l)) (exposure l) }
+    ensures { exposure_of result ≡ after (first (refusals l)) (exposure l) }
 {
     let verdict = validate::validate(l);
     match verdict {
@@ -44,7 +44,7 @@ fn first_exposed(l: Layout) -> Exposure
 }
 
 fn first_table(ts: [Table; Layout::TABLES], ws: [Window; Layout::WINDOWS]) -> Exposure
-    ensures { result ≡ firstTable ts ws }
+    ensures { result ≡ first_table ts ws }
 {
     for i in 0..Layout::TABLES {
         let t = ts[i];
@@ -57,7 +57,7 @@ fn first_table(ts: [Table; Layout::TABLES], ws: [Window; Layout::WINDOWS]) -> Ex
 }
 
 fn first_window(t: Table, ws: [Window; Layout::WINDOWS]) -> Exposure
-    ensures { result ≡ firstWindow t ws }
+    ensures { result ≡ first_window t ws }
 {
     for i in 0..Layout::WINDOWS {
         let w = ws[i];
@@ -73,7 +73,7 @@ fn first_window(t: Table, ws: [Window; Layout::WINDOWS]) -> Exposure
 
 // The difference cannot wrap after the first test.
 fn lies_in(t: Table, w: Window) -> bool
-    ensures { result ≡ liesIn t w }
+    ensures { result ≡ lies_in t w }
 {
     if !t.present {
         return false;
@@ -90,7 +90,7 @@ fn lies_in(t: Table, w: Window) -> bool
 impl Exposure {
     // 0, and the values.
     pub fn words(self) -> [u64; 9]
-        ensures { result ≡ toldWords exposureValues (told self) }
+        ensures { result ≡ told_words exposure_values (told self) }
     {
         match self {
             Exposure::Table { table, window } => [0, 1, table, window, 0, 0, 0, 0, 0],

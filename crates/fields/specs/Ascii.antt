@@ -6,8 +6,8 @@ use Prim.Native.String.{String, [], ◌∷◌}
 abbrev pub space : ℕ
 space = 0x20
 
-abbrev pub lineFeed : ℕ
-lineFeed = 0x0A
+abbrev pub line_feed : ℕ
+line_feed = 0x0A
 
 -- the bytes of a text
 abbrev pub ascii : String → List ℕ

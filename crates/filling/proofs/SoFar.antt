@@ -4,21 +4,21 @@ use mathlib.Core.List.{List}
 use mathlib.Core.Path.{◌≡◌, sym, ap, ◌∙◌}
 use lib.ListN.{length, get_or, drop}
 use Rattle.edge.specs.declared.Edge.{Edge}
-use Rattle.filling.specs.Filling.{Filling, placedNext, placedAll, onward, conflicts, started, filled}
+use Rattle.filling.specs.Filling.{Filling, placed_next, placed_all, onward, conflicts, started, filled}
 use Rattle.filling.proofs.Placed.{place_at, place_end}
 
 -- f₀ is the filling before any edge
 module _ (frames : List (List ℕ)) (dom : ℕ) (edges : List Edge) (f₀ : Filling) where
   abbrev pub PlacedTo : ℕ → Filling → Type 0
-  PlacedTo i f = placedAll frames dom edges f₀ ≡ placedAll frames dom (drop i edges) f
+  PlacedTo i f = placed_all frames dom edges f₀ ≡ placed_all frames dom (drop i edges) f
 
   pub one_placed :
       (i : ℕ) (f g : Filling) (d : Edge) → i < length edges → PlacedTo i f →
-      g ≡ placedNext frames dom f (get_or edges i d) → PlacedTo (i + 1) g
+      g ≡ placed_next frames dom f (get_or edges i d) → PlacedTo (i + 1) g
   one_placed i f g d within placed e =
       placed
       ∙ place_at frames dom edges i f d within
-      ∙ ap (placedAll frames dom (drop (i + 1) edges)) (sym e)
+      ∙ ap (placed_all frames dom (drop (i + 1) edges)) (sym e)
 
   -- base and sup are the maps as they were lent
   pub all_placed :
@@ -28,4 +28,4 @@ module _ (frames : List (List ℕ)) (dom : ℕ) (edges : List Edge) (f₀ : Fill
   all_placed base sup begun i f g past placed e =
       e
       ∙ ap (onward conflicts) (sym (placed ∙ place_end frames dom edges i f past))
-      ∙ ap (λ h. onward conflicts (placedAll frames dom edges h)) begun
+      ∙ ap (λ h. onward conflicts (placed_all frames dom edges h)) begun

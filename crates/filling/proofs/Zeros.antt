@@ -11,6 +11,6 @@ step [] i h = absurd (not-suc-le-zero h)
 step (x ∷ xs) zero h = refl
 step (x ∷ xs) (suc i) h = ap {B = List ℕ} (λ r. 0 ∷ r) (step xs i (le_of_suc-le-suc h))
 
-pub zeros-next :
+pub zeros_next :
     (l : List ℕ) (i : ℕ) → i < length l → set (replicate i 0 ++ drop i l) i 0 ≡ replicate (i + 1) 0 ++ drop (i + 1) l
-zeros-next l i h = rw (add-one, step l i h)
+zeros_next l i h = rw (add-one, step l i h)

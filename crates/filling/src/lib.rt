@@ -1,8 +1,8 @@
 // The steps of filling leaf maps from edges (hv-s2's leafmap.rs): both maps are cleared, edges are placed, conflicts are looked for.
 ghost use Rattle.std.specs.Prelude.{◌≡◌, length, replicate};
-ghost use Rattle.filling.specs.Filling.{filling, put, row16, put_in, placed, placedNext, onward, conflicts, started};
-ghost use Rattle.filling.specs.Progress.{fillingAt, unlessPast};
-ghost use Rattle.refusal.specs.Outcome.{outcomeOf};
+ghost use Rattle.filling.specs.Filling.{filling, put, row16, put_in, placed, placed_next, onward, conflicts, started};
+ghost use Rattle.filling.specs.Progress.{filling_at, unless_past};
+ghost use Rattle.refusal.specs.Outcome.{outcome_of};
 ghost use Rattle.refusal.specs.Table.{accepted, refused};
 
 use edge::Edge;
@@ -21,7 +21,7 @@ pub enum Progress {
 
 // Row 2, before any change; then both maps are cleared.
 pub fn start(base: &mut [u8], sup: &mut [u8]) -> Progress
-    ensures { fillingAt base.new sup.new result ≡ started base.old sup.old }
+    ensures { filling_at base.new sup.new result ≡ started base.old sup.old }
 {
     let lens = lent_rows::map_lens(base, sup);
     let Verdict::Accepted = lens else {
@@ -41,8 +41,8 @@ pub fn place_next(
     base: &mut [u8],
     sup: &mut [u8],
 ) -> Progress
-    ensures { fillingAt base.new sup.new result
-        ≡ placedNext frames.now dom (fillingAt base.old sup.old so_far) e }
+    ensures { filling_at base.new sup.new result
+        ≡ placed_next frames.now dom (filling_at base.old sup.old so_far) e }
 {
     let Progress::Going = so_far else {
         return so_far;
@@ -52,8 +52,8 @@ pub fn place_next(
 
 // The refusal, or row 17.
 pub fn finish(so_far: Progress, base: &[u8], sup: &[u8]) -> Verdict
-    ensures { filling base.now sup.now (outcomeOf result)
-        ≡ onward conflicts (fillingAt base.now sup.now so_far) }
+    ensures { filling base.now sup.now (outcome_of result)
+        ≡ onward conflicts (filling_at base.now sup.now so_far) }
 {
     match so_far {
         Progress::Going => conflict::no_conflict(base, sup),
@@ -68,7 +68,7 @@ pub fn finish(so_far: Progress, base: &[u8], sup: &[u8]) -> Verdict
 
 // Row 16.
 fn past(child: u32, map: &[u8]) -> Verdict
-    ensures { outcomeOf result ≡ refused (row16 child map.now) }
+    ensures { outcome_of result ≡ refused (row16 child map.now) }
 {
     Verdict::Refused(Refusal::OutOfRange {
         mfn: child as u64,
@@ -78,7 +78,7 @@ fn past(child: u32, map: &[u8]) -> Verdict
 
 // One edge: the span is its parent's, since a frame does not know how much of the address space maps it.
 fn place_edge(e: Edge, frames: &[[u32; 2]], dom: u16, base: &mut [u8], sup: &mut [u8]) -> Progress
-    ensures { fillingAt base.new sup.new result
+    ensures { filling_at base.new sup.new result
         ≡ placed frames.now dom (filling base.old sup.old accepted) e }
 {
     if !e.counts(frames, dom) {
@@ -105,7 +105,7 @@ fn place_edge(e: Edge, frames: &[[u32; 2]], dom: u16, base: &mut [u8], sup: &mut
 
 // The edge's entry at its child, and whether the map has one there.
 fn put(map: &mut [u8], e: Edge) -> bool
-    ensures { put map.new (unlessPast result e.child map.new) ≡ put_in map.old e }
+    ensures { put map.new (unless_past result e.child map.new) ≡ put_in map.old e }
 {
     let child = e.child as usize;
     if map.len() <= child {

@@ -1,6 +1,6 @@
 // Grants as records (hv-s2's check.rs), and what one of them covers.
 ghost use Rattle.std.specs.Prelude.{◌≡◌};
-ghost use Rattle.grant.specs.Grant.{grantOf, covers};
+ghost use Rattle.grant.specs.Grant.{grant_of, covers};
 
 // The owner `grantor` lets `grantee` reach `frame`. Both are owner numbers.
 #[derive(Drop)]
@@ -14,7 +14,7 @@ pub struct Grant {
 impl Grant {
     // From a row of its four fields; of the flag zero is no and all else yes.
     pub fn of(row: [u32; 4]) -> Grant
-        ensures { result ≡ grantOf row }
+        ensures { result ≡ grant_of row }
     {
         Grant {
             grantor: row[0],

@@ -7,14 +7,14 @@ use Rattle.granule.specs.declared.GranuleNamed.TheVariants.{Granule as IsGranule
 use Rattle.granule.specs.declared.GranuleNamed.{GranuleNamed}
 
 -- the offset in a page of 4, 16 or 64 KB
-abbrev pub pageBits : Granule → ℕ
-pageBits K4 = 12
-pageBits K16 = 14
-pageBits K64 = 16
+abbrev pub page_bits : Granule → ℕ
+page_bits K4 = 12
+page_bits K16 = 14
+page_bits K64 = 16
 
 -- the index into a table that is one page of 8-byte words
-abbrev pub levelBits : Granule → ℕ
-levelBits g = pageBits g - 3
+abbrev pub level_bits : Granule → ℕ
+level_bits g = page_bits g - 3
 
 -- TG0, bits 15:14: 00 is 4 KB, 01 is 64 KB, 10 is 16 KB
 abbrev pub tg0 : Granule → ℕ
@@ -22,5 +22,5 @@ tg0 K4 = 0b00
 tg0 K64 = 0b01
 tg0 K16 = 0b10
 
-abbrev pub granuleNamed : ℕ → GranuleNamed
-granuleNamed = named tg0 (K4 ∷ K64 ∷ K16 ∷ []) IsGranule NoGranule
+abbrev pub granule_named : ℕ → GranuleNamed
+granule_named = named tg0 (K4 ∷ K64 ∷ K16 ∷ []) IsGranule NoGranule

@@ -1,7 +1,7 @@
 -- The start level, by DDI 0487: the bits of an address that a walk from it resolves, and SL0 of VTCR_EL2.
 use Rattle.std.specs.Prelude.{ℕ, ◌+◌, ◌-◌, ◌*◌, [], ◌∷◌}
 use Rattle.fields.specs.Named.{named}
-use Rattle.granule.specs.Granule.{pageBits, levelBits}
+use Rattle.granule.specs.Granule.{page_bits, level_bits}
 use Rattle.granule.specs.declared.Granule.{Granule}
 use Rattle.granule.specs.declared.LevelNamed.TheVariants.{Level, Reserved as NoLevel}
 use Rattle.granule.specs.declared.LevelNamed.{LevelNamed}
@@ -16,7 +16,7 @@ number L3 = 3
 
 -- the offset, and an index for each level from this one to level 3
 unfoldable pub span : StartLevel → Granule → ℕ
-span l g = pageBits g + (4 - number l) * levelBits g
+span l g = page_bits g + (4 - number l) * level_bits g
 
 -- SL0, bits 7:6: 00 is level 2, 01 level 1, 10 level 0, 11 level 3
 abbrev pub sl0 : StartLevel → ℕ
@@ -25,5 +25,5 @@ sl0 L1 = 0b01
 sl0 L0 = 0b10
 sl0 L3 = 0b11
 
-abbrev pub levelNamed : ℕ → LevelNamed
-levelNamed = named sl0 (L2 ∷ L1 ∷ L0 ∷ L3 ∷ []) Level NoLevel
+abbrev pub level_named : ℕ → LevelNamed
+level_named = named sl0 (L2 ∷ L1 ∷ L0 ∷ L3 ∷ []) Level NoLevel

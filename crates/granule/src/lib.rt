@@ -1,8 +1,8 @@
 // The translation granule and the start level (hv-s2's arm64.rs): how many bits of an address a walk resolves, and the code of each
 // in VTCR_EL2.
 ghost use Rattle.std.specs.Prelude.{◌≡◌};
-ghost use Rattle.granule.specs.Granule.{pageBits, levelBits, tg0, granuleNamed};
-ghost use Rattle.granule.specs.StartLevel.{number, sl0, levelNamed, span};
+ghost use Rattle.granule.specs.Granule.{page_bits, level_bits, tg0, granule_named};
+ghost use Rattle.granule.specs.StartLevel.{number, sl0, level_named, span};
 
 // The translation granule: the size of a page.
 #[derive(Drop)]
@@ -36,7 +36,7 @@ pub enum LevelNamed {
 impl Granule {
     // Bits of the address that are the offset in a page.
     pub fn page_bits(self) -> u32
-        ensures { result ≡ pageBits self }
+        ensures { result ≡ page_bits self }
     {
         match self {
             Granule::K4 => 12,
@@ -47,7 +47,7 @@ impl Granule {
 
     // Bits of the address that one level resolves: a table is a page of 8-byte words.
     pub fn level_bits(self) -> u32
-        ensures { result ≡ levelBits self }
+        ensures { result ≡ level_bits self }
     {
         self.page_bits() - 3
     }
@@ -63,7 +63,7 @@ impl Granule {
     }
 
     pub fn from_tg0(v: u64) -> GranuleNamed
-        ensures { result ≡ granuleNamed v }
+        ensures { result ≡ granule_named v }
     {
         match v {
             0b00 => GranuleNamed::Granule(Granule::K4),
@@ -98,7 +98,7 @@ impl StartLevel {
     }
 
     pub fn from_sl0(v: u64) -> LevelNamed
-        ensures { result ≡ levelNamed v }
+        ensures { result ≡ level_named v }
     {
         match v {
             0b00 => LevelNamed::Level(StartLevel::L2),

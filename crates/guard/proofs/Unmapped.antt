@@ -10,9 +10,9 @@ use lib.Seq.{take_all, get_or-drop}
 use borrow.Author.Tests.{eqb-false, leb-true}
 use Rattle.rows.specs.Rows.{row14}
 
-pub no-row14 : (frames p byte : ℕ) → (frames ≤ p → byte ≡ 0) → row14 frames p byte ≡ []
+pub no_row14 : (frames p byte : ℕ) → (frames ≤ p → byte ≡ 0) → row14 frames p byte ≡ []
 unfolding row14
-no-row14 frames p byte past = go (eqb byte 0) refl (leb frames p) refl
+no_row14 frames p byte past = go (eqb byte 0) refl (leb frames p) refl
   where
     go : (a : Bool) → eqb byte 0 ≡ a → (b : Bool) → leb frames p ≡ b → row14 frames p byte ≡ []
     go true s b t = rw s
@@ -20,9 +20,9 @@ no-row14 frames p byte past = go (eqb byte 0) refl (leb frames p) refl
     go false s false t = rw (s, t)
 
 -- an entry from n on is one of the part from n on
-pub zero-from :
+pub zero_from :
     (xs : List ℕ) (n p : ℕ) → ((i : ℕ) → get_or (take (length xs - n) (drop n xs)) i 0 ≤ 0) → n ≤ p → get_or xs p 0 ≡ 0
-zero-from xs n p zeros from =
+zero_from xs n p zeros from =
     let whole = take_all (length xs - n) (drop n xs) (omega (arith, length-drop n xs)) in
     let at : n + (p - n) ≡ p = omega arith in
     let here : get_or xs p 0 ≤ 0 = rw (whole, get_or-drop, at) at (zeros (p - n)) in

@@ -1,23 +1,23 @@
 // What guards encoding and updates: rows 1 to 14 of document 01's table.
 ghost use Rattle.std.specs.Prelude.{ℕ, true, [], ◌≡◌, drop, get_or};
-ghost use Rattle.layout.specs.Size.{boardLimit};
-ghost use Rattle.refusal.specs.Outcome.{outcomeOf};
-ghost use Rattle.refusal.specs.Table.{first, each, eachFrom, pairs};
-ghost use Rattle.rows.specs.Rows.{row13, row14, guardRows, arenaGuardRows};
+ghost use Rattle.layout.specs.Size.{board_limit};
+ghost use Rattle.refusal.specs.Outcome.{outcome_of};
+ghost use Rattle.refusal.specs.Table.{first, each, each_from, pairs};
+ghost use Rattle.rows.specs.Rows.{row13, row14, guard_rows, arena_guard_rows};
 
 use layout::{Layout, Table};
 use refusal::{Refusal, Verdict};
 
 // Rows 1 to 14.
 pub fn guard(arena: &[u64], base: &[u8], sup: &[u8], l: Layout) -> Verdict
-    ensures { outcomeOf result ≡ first (arenaGuardRows boardLimit arena.now base.now sup.now l) }
+    ensures { outcome_of result ≡ first (arena_guard_rows board_limit arena.now base.now sup.now l) }
 {
     guard_at(Layout::BOARD_LIMIT, arena, base, sup, l)
 }
 
 // The same where tables and outputs lie below a limit of the caller's.
 pub fn guard_at(limit: u64, arena: &[u64], base: &[u8], sup: &[u8], l: Layout) -> Verdict
-    ensures { outcomeOf result ≡ first (arenaGuardRows limit arena.now base.now sup.now l) }
+    ensures { outcome_of result ≡ first (arena_guard_rows limit arena.now base.now sup.now l) }
 {
     let verdict = lent_rows::arena_len(arena);
     let Verdict::Accepted = verdict else {
@@ -28,7 +28,7 @@ pub fn guard_at(limit: u64, arena: &[u64], base: &[u8], sup: &[u8], l: Layout) -
 
 // Rows 2 to 14, where no arena is lent.
 pub fn guard_maps_at(limit: u64, base: &[u8], sup: &[u8], l: Layout) -> Verdict
-    ensures { outcomeOf result ≡ first (guardRows limit base.now sup.now l) }
+    ensures { outcome_of result ≡ first (guard_rows limit base.now sup.now l) }
 {
     let maps = lent_rows::maps(base, sup);
     let Verdict::Accepted = maps else {
@@ -47,7 +47,7 @@ pub fn guard_maps_at(limit: u64, base: &[u8], sup: &[u8], l: Layout) -> Verdict
 
 // Row 13, over every pair.
 fn all_distinct(ts: [Table; Layout::TABLES]) -> Verdict
-    ensures { outcomeOf result ≡ first (pairs row13 ts) }
+    ensures { outcome_of result ≡ first (pairs row13 ts) }
 {
     for i in 0..Layout::TABLES {
         let verdict = distinct_from(ts[i], ts, i + 1);
@@ -60,7 +60,7 @@ fn all_distinct(ts: [Table; Layout::TABLES]) -> Verdict
 
 // A table and those from the given one on.
 fn distinct_from(t: Table, ts: [Table; Layout::TABLES], from: usize) -> Verdict
-    ensures { outcomeOf result ≡ first (each (row13 t) (drop from ts)) }
+    ensures { outcome_of result ≡ first (each (row13 t) (drop from ts)) }
 {
     for i in from..Layout::TABLES {
         let verdict = distinct(t, ts[i]);
@@ -73,7 +73,7 @@ fn distinct_from(t: Table, ts: [Table; Layout::TABLES], from: usize) -> Verdict
 
 // Row 13.
 fn distinct(s: Table, t: Table) -> Verdict
-    ensures { outcomeOf result ≡ first (row13 s t) }
+    ensures { outcome_of result ≡ first (row13 s t) }
 {
     if !s.present {
         return Verdict::Accepted;
@@ -92,7 +92,7 @@ fn distinct(s: Table, t: Table) -> Verdict
 
 // Row 14. No memory is reserved for such a super. The pass that finds no position has no branch to take, and most maps need no other.
 fn backed(sup_frames: u64, sup: &[u8]) -> Verdict
-    ensures { outcomeOf result ≡ first (eachFrom (row14 sup_frames) 0 sup.now) }
+    ensures { outcome_of result ≡ first (each_from (row14 sup_frames) 0 sup.now) }
 {
     if unmapped_from(sup_frames, sup) {
         return Verdict::Accepted;

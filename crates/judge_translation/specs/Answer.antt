@@ -12,30 +12,30 @@ abbrev pub is_at : ℕ → ℕ → List ℕ → Bool
 is_at named j place = eqb (get_or place 0 0) named && eqb (get_or place 1 0) j
 
 -- the word of the first place that is the one asked for, else 0
-unfoldable pub elsewhereOf : List (List ℕ) → ℕ → ℕ → ℕ
-elsewhereOf [] named j = 0
-elsewhereOf (place ∷ places) named j =
-    pick (is_at named j place) (get_or place 2 0) (elsewhereOf places named j)
+unfoldable pub elsewhere_of : List (List ℕ) → ℕ → ℕ → ℕ
+elsewhere_of [] named j = 0
+elsewhere_of (place ∷ places) named j =
+    pick (is_at named j place) (get_or place 2 0) (elsewhere_of places named j)
 
 -- with FEAT_XNX or without it
 abbrev pub machine_of : Bool → List (List ℕ) → Machine
-machine_of xnx places = record { xnx = xnx; elsewhere = elsewhereOf places }
+machine_of xnx places = record { xnx = xnx; elsewhere = elsewhere_of places }
 
 -- 0 reads, 1 writes, 2 executes at EL0, any other executes at EL1
-abbrev pub accessNumbered : ℕ → Access
-accessNumbered n = get_or (reads ∷ writes ∷ executes el0 ∷ []) n (executes el1)
+abbrev pub access_numbered : ℕ → Access
+access_numbered n = get_or (reads ∷ writes ∷ executes el0 ∷ []) n (executes el1)
 
 -- 1 and the byte, or 0 and 0
-abbrev pub translatedNumbers : Translated → List ℕ
-translatedNumbers (byte pa) = 1 ∷ pa ∷ []
-translatedNumbers fault = 0 ∷ 0 ∷ []
+abbrev pub translated_numbers : Translated → List ℕ
+translated_numbers (byte pa) = 1 ∷ pa ∷ []
+translated_numbers fault = 0 ∷ 0 ∷ []
 
 -- of FEAT_XNX, zero is no; each read sees the arena as it is
-abbrev pub translationAnswer : List ℕ → List ℕ → List (List ℕ) → ℕ → ℕ → ℕ → List ℕ
-translationAnswer arena tables places xnx access x =
-    translatedNumbers (translation (machine_of (nonzero xnx) places) tables (λ left. words_of arena) (accessNumbered access) x)
+abbrev pub translation_answer : List ℕ → List ℕ → List (List ℕ) → ℕ → ℕ → ℕ → List ℕ
+translation_answer arena tables places xnx access x =
+    translated_numbers (translation (machine_of (nonzero xnx) places) tables (λ left. words_of arena) (access_numbered access) x)
 
 -- how the code carries an answer
-abbrev pub translatedOf : Told → Translated
-translatedOf (Byte pa) = byte pa
-translatedOf Fault = fault
+abbrev pub translated_of : Told → Translated
+translated_of (Byte pa) = byte pa
+translated_of Fault = fault

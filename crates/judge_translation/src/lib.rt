@@ -2,8 +2,8 @@
 // uses it.
 ghost use Rattle.std.specs.Prelude.{◌<◌, ◌∷◌, ◌≡◌, length};
 ghost use Rattle.descent.specs.Descent.{words_of, fetch};
-ghost use Rattle.judge_translation.specs.Answer.{is_at, elsewhereOf, machine_of, accessNumbered, translatedOf, translationAnswer};
-ghost use Rattle.layout.specs.Size.{entries, tableCount};
+ghost use Rattle.judge_translation.specs.Answer.{is_at, elsewhere_of, machine_of, access_numbered, translated_of, translation_answer};
+ghost use Rattle.layout.specs.Size.{entries, table_count};
 ghost use Rattle.manual.specs.Translation.{permits, leaf, level1, level2, level3, translation};
 
 use layout::Layout;
@@ -28,7 +28,7 @@ pub extern "C" fn judge_translation(
     byte: &mut [u64; 1],
 ) -> u32
     ensures { (result ∷ byte.new)
-        ≡ translationAnswer arena.now tables.now places.now xnx access ipa }
+        ≡ translation_answer arena.now tables.now places.now xnx access ipa }
 {
     match translate(arena, tables, places, xnx != 0, access, ipa) {
         Translated::Byte(pa) => {
@@ -50,10 +50,10 @@ fn translate(
     access: u32,
     ipa: u64,
 ) -> Translated
-    requires { length tables.now ≡ tableCount }
-    ensures { translatedOf result
+    requires { length tables.now ≡ table_count }
+    ensures { translated_of result
         ≡ translation (machine_of xnx places.now) tables.now (λ left. words_of arena.now)
-        (accessNumbered access) ipa }
+        (access_numbered access) ipa }
 {
     if Layout::ADDRESSABLE <= ipa {
         return Translated::Fault;
@@ -70,10 +70,10 @@ fn level1(
     ipa: u64,
     named: u64,
 ) -> Translated
-    requires { length tables.now ≡ tableCount }
-    ensures { translatedOf result
+    requires { length tables.now ≡ table_count }
+    ensures { translated_of result
         ≡ level1 (machine_of xnx places.now) tables.now (λ left. words_of arena.now)
-        (accessNumbered access) ipa named }
+        (access_numbered access) ipa named }
 {
     let index = (ipa / Layout::L1_ENTRY_SIZE % Layout::INDICES) as usize;
     let d = lookup(arena, tables, places, named, index);
@@ -97,10 +97,10 @@ fn level2(
     ipa: u64,
     named: u64,
 ) -> Translated
-    requires { length tables.now ≡ tableCount }
-    ensures { translatedOf result
+    requires { length tables.now ≡ table_count }
+    ensures { translated_of result
         ≡ level2 (machine_of xnx places.now) tables.now (λ left. words_of arena.now)
-        (accessNumbered access) ipa named }
+        (access_numbered access) ipa named }
 {
     let index = (ipa / Layout::BLOCK_SIZE % Layout::INDICES) as usize;
     let d = lookup(arena, tables, places, named, index);
@@ -124,10 +124,10 @@ fn level3(
     ipa: u64,
     named: u64,
 ) -> Translated
-    requires { length tables.now ≡ tableCount }
-    ensures { translatedOf result
+    requires { length tables.now ≡ table_count }
+    ensures { translated_of result
         ≡ level3 (machine_of xnx places.now) tables.now (λ left. words_of arena.now)
-        (accessNumbered access) ipa named }
+        (access_numbered access) ipa named }
 {
     let index = (ipa / Layout::PAGE_SIZE % Layout::INDICES) as usize;
     let d = lookup(arena, tables, places, named, index);
@@ -140,7 +140,7 @@ fn level3(
 
 // The access flag clear faults, and so does an access that is not permitted.
 fn leaf(xnx: bool, access: u32, output: u64, d: u64) -> Translated
-    ensures { translatedOf result ≡ leaf xnx (accessNumbered access) output d }
+    ensures { translated_of result ≡ leaf xnx (access_numbered access) output d }
 {
     if d / desc::AF % 2 != 1 {
         return Translated::Fault;
@@ -153,7 +153,7 @@ fn leaf(xnx: bool, access: u32, output: u64, d: u64) -> Translated
 
 // S2AP's bit 6 reads, bit 7 writes; XN, bit 54, is set where EL0 does not execute, and where EL1 does not without FEAT_XNX.
 fn permits(xnx: bool, access: u32, d: u64) -> bool
-    ensures { result ≡ permits xnx (accessNumbered access) d }
+    ensures { result ≡ permits xnx (access_numbered access) d }
 {
     let never = d / desc::XN % 2;
     match access {
@@ -171,9 +171,9 @@ fn permits(xnx: bool, access: u32, d: u64) -> bool
 
 // A word of the first table whose address is the one named; else of the first place.
 fn lookup(arena: &[u64], tables: &[u64], places: &[[u64; 3]], named: u64, index: usize) -> u64
-    requires tables_len { length tables.now ≡ tableCount }
+    requires tables_len { length tables.now ≡ table_count }
     requires index_lt_entries { index < entries }
-    ensures { result ≡ fetch (elsewhereOf places.now named index) tables.now
+    ensures { result ≡ fetch (elsewhere_of places.now named index) tables.now
         (words_of arena.now) named index }
 {
     for t in 0..Layout::TABLES {
@@ -185,7 +185,7 @@ fn lookup(arena: &[u64], tables: &[u64], places: &[[u64; 3]], named: u64, index:
 }
 
 fn elsewhere(places: &[[u64; 3]], named: u64, index: u64) -> u64
-    ensures { result ≡ elsewhereOf places.now named index }
+    ensures { result ≡ elsewhere_of places.now named index }
 {
     for i in 0..places.len() {
         let place = places[i];

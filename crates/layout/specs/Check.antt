@@ -1,7 +1,7 @@
 -- Row 6's six checks of alignment.
 use Rattle.std.specs.Prelude.{ℕ, ◌%◌, Bool, true, not, ◌&&◌, List, [], ◌∷◌, eqb}
 use Rattle.layout.specs.Size.{page, block}
-use Rattle.layout.specs.Window.{imageWindow, deviceWindow}
+use Rattle.layout.specs.Window.{image_window, device_window}
 use Rattle.layout.specs.declared.Check.{Check}
 use Rattle.layout.specs.declared.Layout.{Layout}
 
@@ -13,10 +13,10 @@ abbrev pub check : ℕ → Bool → ℕ → ℕ → Check
 check n applies base align = record { code = n; fails = applies && unaligned base align; base = base; align = align }
 
 -- data ipa, data pa, super ipa, super pa, image, device: data pa 4,096, others 2 MiB; device if its length is above 0
-abbrev pub checksOf : Layout → List Check
-checksOf l =
-    let image = imageWindow l.guest_image_pa in
-    let device = deviceWindow l in
+abbrev pub checks_of : Layout → List Check
+checks_of l =
+    let image = image_window l.guest_image_pa in
+    let device = device_window l in
     check 1 true l.data_ipa_base block
     ∷ check 2 true l.data_pa_base page
     ∷ check 3 true l.sup_ipa_base block

@@ -12,16 +12,16 @@ abbrev pub image_of : ℕ → ℕ → GuestImage
 image_of present pa = pick (eqb present 0) Absent (At pa)
 
 -- fields 01 to 10
-abbrev pub fieldCount : ℕ
-fieldCount = 0x10
+abbrev pub field_count : ℕ
+field_count = 0x10
 
 -- the fields, and whether there is an image
-abbrev pub numberCount : ℕ
-numberCount = fieldCount + 1
+abbrev pub number_count : ℕ
+number_count = field_count + 1
 
 -- fields 01 to 10, with whether there is an image just before the image
-unfoldable pub layoutOf : List ℕ → Layout
-layoutOf x =
+unfoldable pub layout_of : List ℕ → Layout
+layout_of x =
     record {
       l1_pa = get_or x 0 0;
       l2_code_pa = get_or x 1 0;
@@ -41,18 +41,18 @@ layoutOf x =
       sup_frames = get_or x 16 0;
     }
 
-abbrev pub imageField : ℕ
-imageField = 7
+abbrev pub image_field : ℕ
+image_field = 7
 
 -- where field n, 1 to 10, stands in that list
 abbrev pub field_at : ℕ → ℕ
-field_at n = pick (ltb n imageField) (n - 1) n
+field_at n = pick (ltb n image_field) (n - 1) n
 
-abbrev pub tableIf : ℕ → Bool → ℕ → Table
-tableIf n present pa = record { code = n; present = present; pa = pa }
+abbrev pub table_if : ℕ → Bool → ℕ → Table
+table_if n present pa = record { code = n; present = present; pa = pa }
 
 abbrev pub table_at : ℕ → ℕ → Table
-table_at n pa = tableIf n true pa
+table_at n pa = table_if n true pa
 
 -- l1, l2_code, l2_data, l3_data, l2_sup, l2_dev: tables 1 to 6
 abbrev pub tables_of : Layout → List Table

@@ -11,34 +11,34 @@ page = 4096
 abbrev pub block : ℕ
 block = entries * page
 
-abbrev pub l1Span : ℕ
-l1Span = entries * block
+abbrev pub l1_span : ℕ
+l1_span = entries * block
 
 -- 39-bit input
-abbrev pub inputLimit : ℕ
-inputLimit = entries * l1Span
+abbrev pub input_limit : ℕ
+input_limit = entries * l1_span
 
 -- output addresses have 48 bits
-abbrev pub outputLimit : ℕ
-outputLimit = 2 ^ 48
+abbrev pub output_limit : ℕ
+output_limit = 2 ^ 48
 
 -- what tables and outputs of a board's layout lie below, and those of a dumped one
-abbrev pub boardLimit : ℕ
-boardLimit = outputLimit
+abbrev pub board_limit : ℕ
+board_limit = output_limit
 
-abbrev pub dumpLimit : ℕ
-dumpLimit = outputLimit
+abbrev pub dump_limit : ℕ
+dump_limit = output_limit
 
 -- the first count of blocks whose length leaves 64 bits
 abbrev pub uncountable : ℕ
 uncountable = 2 ^ 43
 
 -- six tables
-abbrev pub tableCount : ℕ
-tableCount = 6
+abbrev pub table_count : ℕ
+table_count = 6
 
-abbrev pub arenaLength : ℕ
-arenaLength = tableCount * entries
+abbrev pub arena_length : ℕ
+arena_length = table_count * entries
 
 -- the place of table t's first word
 abbrev pub first_word : ℕ → ℕ

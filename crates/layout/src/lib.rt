@@ -1,9 +1,9 @@
 // Where the tables stand and what they map (hv-s2's arm64.rs).
 ghost use Rattle.std.specs.Prelude.{◌<◌, ◌≡◌};
-ghost use Rattle.layout.specs.Check.{check, checksOf};
+ghost use Rattle.layout.specs.Check.{check, checks_of};
 ghost use Rattle.layout.specs.Layout.{image_of, tables_of};
 ghost use Rattle.layout.specs.Size.{first_word};
-ghost use Rattle.layout.specs.Window.{imageWindow, dataWindow, superCounted, deviceWindow, devicesOf, l1Slot, l2Slot, slot};
+ghost use Rattle.layout.specs.Window.{image_window, data_window, super_counted, device_window, devices_of, l1_slot, l2_slot, slot};
 
 // The address of the guest image, to which it is mapped itself; absent where a guest's code lies in its own memory.
 #[derive(Drop)]
@@ -145,7 +145,7 @@ impl Layout {
 
     // Row 6's six checks, in their order.
     pub fn checks(self) -> [Check; Self::CHECKS]
-        ensures { result ≡ checksOf self }
+        ensures { result ≡ checks_of self }
     {
         let image_pa = self.guest_image_pa;
         let image = image_pa.window();
@@ -172,20 +172,20 @@ impl Layout {
 
     // The level 1 entry of an address.
     pub fn l1_index(x: u64) -> u64
-        ensures { result ≡ l1Slot x }
+        ensures { result ≡ l1_slot x }
     {
         x / Self::L1_ENTRY_SIZE % Self::INDICES
     }
 
     // The level 2 entry of an address.
     pub fn l2_index(x: u64) -> u64
-        ensures { result ≡ l2Slot x }
+        ensures { result ≡ l2_slot x }
     {
         x / Self::BLOCK_SIZE % Self::INDICES
     }
 
     pub fn data_window(self) -> Window
-        ensures { result ≡ dataWindow self }
+        ensures { result ≡ data_window self }
     {
         Window {
             code: 2,
@@ -198,7 +198,7 @@ impl Layout {
 
     // Row 8 is its test.
     pub fn super_window(self) -> SuperWindow
-        ensures { result ≡ superCounted self }
+        ensures { result ≡ super_counted self }
     {
         if Self::UNCOUNTABLE <= self.sup_frames {
             return SuperWindow::Uncountable;
@@ -214,7 +214,7 @@ impl Layout {
     }
 
     pub fn device_window(self) -> Window
-        ensures { result ≡ deviceWindow self }
+        ensures { result ≡ device_window self }
     {
         Window {
             code: 4,
@@ -226,7 +226,7 @@ impl Layout {
     }
 
     pub fn devices(self) -> [Window; Self::DEVICES]
-        ensures { result ≡ devicesOf self }
+        ensures { result ≡ devices_of self }
     {
         [self.device_window()]
     }
@@ -244,7 +244,7 @@ impl GuestImage {
     }
 
     pub fn window(self) -> Window
-        ensures { result ≡ imageWindow self }
+        ensures { result ≡ image_window self }
     {
         match self {
             GuestImage::At(pa) => Window {

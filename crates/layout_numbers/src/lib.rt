@@ -1,12 +1,12 @@
 // The layout that board code's numbers say.
 ghost use Rattle.std.specs.Prelude.{◌≡◌};
-ghost use Rattle.layout.specs.Layout.{layoutOf};
+ghost use Rattle.layout.specs.Layout.{layout_of};
 
 use layout::{GuestImage, Layout};
 
 // The fields in their order, with whether there is an image just before the image.
 pub fn layout_of(x: &[u64; Layout::NUMBERS]) -> Layout
-    ensures { result ≡ layoutOf x.now }
+    ensures { result ≡ layout_of x.now }
 {
     let guest_image_pa = GuestImage::of(x[6], x[7]);
     Layout {

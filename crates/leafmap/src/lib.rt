@@ -1,8 +1,8 @@
 // Which frames a domain's page tables reach, and at what permission (hv-s2's leafmap.rs).
 ghost use Rattle.std.specs.Prelude.{◌≡◌};
-ghost use Rattle.edge.specs.Edge.{edgesOf};
+ghost use Rattle.edge.specs.Edge.{edges_of};
 ghost use Rattle.filling.specs.Filling.{filling, filled};
-ghost use Rattle.refusal.specs.Outcome.{outcomeOf};
+ghost use Rattle.refusal.specs.Outcome.{outcome_of};
 
 use edge::Edge;
 use refusal::Verdict;
@@ -15,8 +15,8 @@ pub fn leaf_map_from_edges(
     base: &mut [u8],
     sup: &mut [u8],
 ) -> Verdict
-    ensures { filling base.new sup.new (outcomeOf result)
-        ≡ filled frames.now dom (edgesOf edges.now) base.old sup.old }
+    ensures { filling base.new sup.new (outcome_of result)
+        ≡ filled frames.now dom (edges_of edges.now) base.old sup.old }
 {
     let mut so_far = filling::start(base, sup);
     for i in 0..edges.len() {

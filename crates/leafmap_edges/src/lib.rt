@@ -1,7 +1,7 @@
 // Which frames a domain's page tables reach, from a lent slice of edges (hv-s2's leafmap.rs).
 ghost use Rattle.std.specs.Prelude.{◌≡◌};
 ghost use Rattle.filling.specs.Filling.{filling, filled};
-ghost use Rattle.refusal.specs.Outcome.{outcomeOf};
+ghost use Rattle.refusal.specs.Outcome.{outcome_of};
 
 use edge::Edge;
 use refusal::Verdict;
@@ -14,7 +14,7 @@ pub fn leaf_map_from_edges(
     base: &mut [u8],
     sup: &mut [u8],
 ) -> Verdict
-    ensures { filling base.new sup.new (outcomeOf result)
+    ensures { filling base.new sup.new (outcome_of result)
         ≡ filled frames.now dom edges.now base.old sup.old }
 {
     let mut so_far = filling::start(base, sup);

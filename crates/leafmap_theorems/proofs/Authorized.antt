@@ -8,22 +8,22 @@ use lib.Dec.{eqb}
 use lib.ListN.{get_or}
 use borrow.Author.Tests.{eqb-true, eq-eqb, not-false}
 use Rattle.authority.proofs.Owned.{allowed, unmapped, of_owner}
-use Rattle.authority.specs.Authority.{hasGrant, reaches, row23, ownerRows, reachRows, authorityRows}
+use Rattle.authority.specs.Authority.{has_grant, reaches, row23, owner_rows, reach_rows, authority_rows}
 use Rattle.grant.specs.Grant.{covers}
 use Rattle.grant.specs.declared.Grant.{Grant}
 use Rattle.leafmap_theorems.specs.Authorized.{Granted, MayReach, Authorized, AcceptsAuthorized}
-use Rattle.p2m.specs.Frame.{ownerOf}
+use Rattle.p2m.specs.Frame.{owner_of}
 use Rattle.p2m.specs.declared.Owner.{Owner}
 use Rattle.p2m.specs.declared.Owner.TheVariants.{Domain, Nobody}
-use Rattle.perm.specs.Perm.{permWrites, entryNamed}
+use Rattle.perm.specs.Perm.{perm_writes, entry_named}
 use Rattle.perm.specs.declared.Entry.TheVariants.{Mapped, Unmapped}
 use Rattle.perm.specs.declared.Entry.{Entry}
 use Rattle.perm.specs.declared.Perm.{Perm}
-use Rattle.refusal.proofs.None.{none, both, only, accept, from-none, from-nowhere}
+use Rattle.refusal.proofs.None.{none, both, only, accept, from_none, from_nowhere}
 use Rattle.refusal.specs.Outcome.{row_of}
-use Rattle.refusal.specs.Table.{accepted, first, eachFrom}
+use Rattle.refusal.specs.Table.{accepted, first, each_from}
 use Rattle.refusal.specs.declared.Refusal.TheVariants.{UnauthorizedMapping, WriteEscalation}
-use Rattle.rows.specs.Rows.{readRows}
+use Rattle.rows.specs.Rows.{read_rows}
 
 -- a test of several parts holds where each does
 
@@ -54,16 +54,16 @@ covered false x f = refl
 -- a grant that covers the access
 
 module _ (owner dom m : ℕ) (w : Bool) where
-  in_list : (grants : List Grant) → hasGrant grants owner dom m w ≡ true → Granted grants owner dom m w
-  unfolding hasGrant covers
+  in_list : (grants : List Grant) → has_grant grants owner dom m w ≡ true → Granted grants owner dom m w
+  unfolding has_grant covers
   in_list [] e = absurd (false≢true e)
   in_list (g ∷ gs) e = go (covers owner dom m w g) refl e (in_list gs)
     where
       go :
           (b : Bool) →
           covers owner dom m w g ≡ b →
-          (b || hasGrant gs owner dom m w) ≡ true →
-          (hasGrant gs owner dom m w ≡ true → Granted gs owner dom m w) →
+          (b || has_grant gs owner dom m w) ≡ true →
+          (has_grant gs owner dom m w ≡ true → Granted gs owner dom m w) →
           Granted (g ∷ gs) owner dom m w
       go true c h rest =
           let p = parts (eqb g.frame m) (eqb g.grantee dom) (eqb g.grantor owner) (not w || g.writable) c in
@@ -86,45 +86,45 @@ module _ (owner dom m : ℕ) (w : Bool) where
             enough = r.enough;
           }
 
-  covers-it :
+  covers_it :
       (g : Grant) →
       g.grantor ≡ owner → g.grantee ≡ dom → g.frame ≡ m → (w ≡ true → g.writable ≡ true) → covers owner dom m w g ≡ true
   unfolding covers
-  covers-it g o d f e = rw (eq-eqb _ _ f, eq-eqb _ _ d, eq-eqb _ _ o, covered w g.writable e)
+  covers_it g o d f e = rw (eq-eqb _ _ f, eq-eqb _ _ d, eq-eqb _ _ o, covered w g.writable e)
 
   found :
       (grants : List Grant) (g : Grant) →
-      Memᴰ g grants → covers owner dom m w g ≡ true → hasGrant grants owner dom m w ≡ true
-  unfolding hasGrant
+      Memᴰ g grants → covers owner dom m w g ≡ true → has_grant grants owner dom m w ≡ true
+  unfolding has_grant
   found (x ∷ xs) g (Memᴰ.head q) c = rw (ap (covers owner dom m w) (sym q) ∙ c)
-  found (x ∷ xs) g (Memᴰ.tail t) c = or_right (covers owner dom m w x) (hasGrant xs owner dom m w) (found xs g t c)
+  found (x ∷ xs) g (Memᴰ.tail t) c = or_right (covers owner dom m w x) (has_grant xs owner dom m w) (found xs g t c)
 
-  from_list : (grants : List Grant) → Granted grants owner dom m w → hasGrant grants owner dom m w ≡ true
+  from_list : (grants : List Grant) → Granted grants owner dom m w → has_grant grants owner dom m w ≡ true
   from_list grants r =
-      found grants r.grant r.listed (covers-it r.grant r.grantor r.grantee r.frame r.enough)
+      found grants r.grant r.listed (covers_it r.grant r.grantor r.grantee r.frame r.enough)
 
 -- a frame that may be reached, by its owner
 module _ (frames : List (List ℕ)) (grants : List Grant) (dom m : ℕ) (w : Bool) where
-  may-reach : reaches grants dom m w (ownerOf frames m) ≡ true → MayReach frames grants dom m w
-  may-reach e = go (ownerOf frames m) refl e
+  may_reach : reaches grants dom m w (owner_of frames m) ≡ true → MayReach frames grants dom m w
+  may_reach e = go (owner_of frames m) refl e
     where
       by :
           (o : ℕ) (own : Bool) →
-          ownerOf frames m ≡ Domain o →
-          eqb o dom ≡ own → (own || hasGrant grants o dom m w) ≡ true → MayReach frames grants dom m w
+          owner_of frames m ≡ Domain o →
+          eqb o dom ≡ own → (own || has_grant grants o dom m w) ≡ true → MayReach frames grants dom m w
       by o true t q e = inl (t ∙ ap Domain (eqb-true o dom q))
-      by o false t q e = inr (record { owner = o; owns = t; grants-it = in_list o dom m w grants e })
+      by o false t q e = inr (record { owner = o; owns = t; grants_it = in_list o dom m w grants e })
 
-      go : (o : Owner) → ownerOf frames m ≡ o → reaches grants dom m w o ≡ true → MayReach frames grants dom m w
+      go : (o : Owner) → owner_of frames m ≡ o → reaches grants dom m w o ≡ true → MayReach frames grants dom m w
       go (Domain o) t e = by o (eqb o dom) t refl e
       go Nobody t e = absurd (false≢true e)
 
-  reached : MayReach frames grants dom m w → reaches grants dom m w (ownerOf frames m) ≡ true
+  reached : MayReach frames grants dom m w → reaches grants dom m w (owner_of frames m) ≡ true
   reached =
       ⊎_elim (λ own. ap (reaches grants dom m w) own ∙ rw (eq-eqb dom dom refl))
       (λ g.
       ap (reaches grants dom m w) g.owns
-      ∙ or_right (eqb g.owner dom) _ (from_list g.owner dom m w grants g.grants-it))
+      ∙ or_right (eqb g.owner dom) _ (from_list g.owner dom m w grants g.grants_it))
 
 -- the tests of rows 23 and 24: w for writing, r and x what may be reached for reading and for writing
 let_by : (w r x : Bool) → not r ≡ false → (w && r && not x) ≡ false → (r ≡ true) × (w ≡ true → x ≡ true)
@@ -132,63 +132,63 @@ let_by w true x a b = (refl, λ h. not-false x (sym (ap (λ v. v && true && not 
 let_by w false x a b = absurd (false≢true (sym a))
 
 module _ (grants : List Grant) (dom m : ℕ) (p : Perm) where
-  at-access :
+  at_access :
       (w : Bool) (o : Owner) →
       (reaches grants dom m false o ≡ true) × (w ≡ true → reaches grants dom m true o ≡ true) → reaches grants dom m w o ≡ true
-  at-access true o e = e.1 refl
-  at-access false o e = e.0
+  at_access true o e = e.1 refl
+  at_access false o e = e.0
 
-  no-owner-row : (o : Owner) → ownerRows grants dom m (Mapped p) o ≡ [] → reaches grants dom m (permWrites p) o ≡ true
-  unfolding ownerRows
-  no-owner-row (Domain o) e =
+  no_owner_row : (o : Owner) → owner_rows grants dom m (Mapped p) o ≡ [] → reaches grants dom m (perm_writes p) o ≡ true
+  unfolding owner_rows
+  no_owner_row (Domain o) e =
       let rows = both (row23 grants dom m p (Domain o)) _ e in
-      at-access (permWrites p) (Domain o)
-      (let_by (permWrites p) (reaches grants dom m false (Domain o)) (reaches grants dom m true (Domain o))
+      at_access (perm_writes p) (Domain o)
+      (let_by (perm_writes p) (reaches grants dom m false (Domain o)) (reaches grants dom m true (Domain o))
       (only _ (row_of (UnauthorizedMapping dom m (Domain o) p)) rows.0)
       (only _ (row_of (WriteEscalation dom m o)) rows.1))
-  no-owner-row Nobody e =
+  no_owner_row Nobody e =
       absurd (false≢true (sym (only true (row_of (UnauthorizedMapping dom m Nobody p)) (both (row23 grants dom m p Nobody) _ e).0)))
 
 module _ (frames : List (List ℕ)) (grants : List Grant) (dom m byte : ℕ) where
-  pub no-row-reaches :
-      reachRows frames grants dom m byte ≡ [] →
-      (p : Perm) → entryNamed byte ≡ Mapped p → MayReach frames grants dom m (permWrites p)
-  no-row-reaches e p mapped =
-      may-reach frames grants dom m (permWrites p)
-      (no-owner-row grants dom m p (ownerOf frames m)
-      (sym (of_owner frames grants dom m byte p mapped (ownerOf frames m) refl) ∙ e))
+  pub no_row_reaches :
+      reach_rows frames grants dom m byte ≡ [] →
+      (p : Perm) → entry_named byte ≡ Mapped p → MayReach frames grants dom m (perm_writes p)
+  no_row_reaches e p mapped =
+      may_reach frames grants dom m (perm_writes p)
+      (no_owner_row grants dom m p (owner_of frames m)
+      (sym (of_owner frames grants dom m byte p mapped (owner_of frames m) refl) ∙ e))
 
-  pub reaches-no-row :
-      ((p : Perm) → entryNamed byte ≡ Mapped p → MayReach frames grants dom m (permWrites p)) →
-      reachRows frames grants dom m byte ≡ []
-  reaches-no-row may = go (entryNamed byte) refl
+  pub reaches_no_row :
+      ((p : Perm) → entry_named byte ≡ Mapped p → MayReach frames grants dom m (perm_writes p)) →
+      reach_rows frames grants dom m byte ≡ []
+  reaches_no_row may = go (entry_named byte) refl
     where
-      go : (e : Entry) → entryNamed byte ≡ e → reachRows frames grants dom m byte ≡ []
+      go : (e : Entry) → entry_named byte ≡ e → reach_rows frames grants dom m byte ≡ []
       go (Mapped p) e =
-          of_owner frames grants dom m byte p e (ownerOf frames m) refl
-          ∙ allowed grants dom m p (ownerOf frames m) (reached frames grants dom m (permWrites p) (may p e))
+          of_owner frames grants dom m byte p e (owner_of frames m) refl
+          ∙ allowed grants dom m p (owner_of frames m) (reached frames grants dom m (perm_writes p) (may p e))
       go Unmapped e = unmapped frames grants dom m byte e
 
 sound :
     (frames : List (List ℕ)) (grants : List Grant) (dom : ℕ) (map : List ℕ) →
-    first (authorityRows frames grants dom map) ≡ accepted → Authorized frames grants dom map
-unfolding authorityRows flat_map
+    first (authority_rows frames grants dom map) ≡ accepted → Authorized frames grants dom map
+unfolding authority_rows flat_map
 sound frames grants dom map e m inside p mapped =
-    let rows = (both (eachFrom (reachRows frames grants dom) 0 map) _ (both (readRows 1 map) _ (none _ e)).1).0 in
-    no-row-reaches frames grants dom m (get_or map m 0) (from-none (reachRows frames grants dom) map 0 rows m inside) p mapped
+    let rows = (both (each_from (reach_rows frames grants dom) 0 map) _ (both (read_rows 1 map) _ (none _ e)).1).0 in
+    no_row_reaches frames grants dom m (get_or map m 0) (from_none (reach_rows frames grants dom) map 0 rows m inside) p mapped
 
 complete :
     (frames : List (List ℕ)) (grants : List Grant) (dom : ℕ) (map : List ℕ) →
-    first (readRows 1 map) ≡ accepted →
-    Authorized frames grants dom map → first (authorityRows frames grants dom map) ≡ accepted
-unfolding authorityRows flat_map
+    first (read_rows 1 map) ≡ accepted →
+    Authorized frames grants dom map → first (authority_rows frames grants dom map) ≡ accepted
+unfolding authority_rows flat_map
 complete frames grants dom map readable may =
     accept _
     (rw (
       none _ readable,
-      from-nowhere (reachRows frames grants dom) map 0
-          (λ m inside. reaches-no-row frames grants dom m (get_or map m 0) (may m inside)),
+      from_nowhere (reach_rows frames grants dom) map 0
+          (λ m inside. reaches_no_row frames grants dom m (get_or map m 0) (may m inside)),
     ))
 
-pub accepts-authorized : AcceptsAuthorized
-accepts-authorized = record { sound = sound; complete = complete }
+pub accepts_authorized : AcceptsAuthorized
+accepts_authorized = record { sound = sound; complete = complete }

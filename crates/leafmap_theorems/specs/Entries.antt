@@ -1,9 +1,9 @@
 -- What edges grant: the entries of the filling, by the last edge into each frame; and where a refused filling stops.
 use Rattle.std.specs.Prelude.{ℕ, ◌≤◌, List, ◌∷◌, ◌++◌, ◌⊎◌, ◌≡◌, get_or}
 use Rattle.edge.specs.declared.Edge.{Edge}
-use Rattle.exact.specs.Exact.{exactRows}
+use Rattle.exact.specs.Exact.{exact_rows}
 use Rattle.expected.specs.Expected.{expected}
-use Rattle.filling.specs.Filling.{mapOf, placed, placedAll, conflicts, clearedMaps, filledInto, filled}
+use Rattle.filling.specs.Filling.{map_of, placed, placed_all, conflicts, cleared_maps, filled_into, filled}
 use Rattle.layout.specs.Size.{entries as mapEntries}
 use Rattle.p2m.specs.declared.Span.{Span}
 use Rattle.refusal.specs.Table.{Row, accepted, refused, first}
@@ -12,17 +12,17 @@ use Rattle.refusal.specs.Table.{Row, accepted, refused, first}
 abbrev pub Entries : Type 0
 Entries =
     (frames : List (List ℕ)) (dom : ℕ) (edges : List Edge) (n m : ℕ) →
-    (filledInto frames dom edges n m).outcome ≡ accepted →
-    (s : Span) (p : ℕ) → get_or (mapOf s (filledInto frames dom edges n m)) p 0 ≡ expected frames dom s edges p
+    (filled_into frames dom edges n m).outcome ≡ accepted →
+    (s : Span) (p : ℕ) → get_or (map_of s (filled_into frames dom edges n m)) p 0 ≡ expected frames dom s edges p
 
 -- accepted fillings of the same edges at any map lengths agree entry by entry, with 0 past the end
 abbrev pub SameEntries : Type 0
 SameEntries =
     (frames : List (List ℕ)) (dom : ℕ) (edges : List Edge) (n m n' m' : ℕ) →
-    (filledInto frames dom edges n m).outcome ≡ accepted →
-    (filledInto frames dom edges n' m').outcome ≡ accepted →
+    (filled_into frames dom edges n m).outcome ≡ accepted →
+    (filled_into frames dom edges n' m').outcome ≡ accepted →
     (s : Span) (p : ℕ) →
-    get_or (mapOf s (filledInto frames dom edges n m)) p 0 ≡ get_or (mapOf s (filledInto frames dom edges n' m')) p 0
+    get_or (map_of s (filled_into frames dom edges n m)) p 0 ≡ get_or (map_of s (filled_into frames dom edges n' m')) p 0
 
 -- what is accepted into maps is accepted into longer ones
 abbrev pub LongerAccepts : Type 0
@@ -30,15 +30,15 @@ LongerAccepts =
     (frames : List (List ℕ)) (dom : ℕ) (edges : List Edge) (n m n' m' : ℕ) →
     n ≤ n' →
     m ≤ m' →
-    (filledInto frames dom edges n m).outcome ≡ accepted → (filledInto frames dom edges n' m').outcome ≡ accepted
+    (filled_into frames dom edges n m).outcome ≡ accepted → (filled_into frames dom edges n' m').outcome ≡ accepted
 
 -- where lent maps, of at most 512, were filled, maps of 512 can be, with the same entries
 pub record FilledWhole (frames : List (List ℕ)) (dom : ℕ) (edges : List Edge) (base sup : List ℕ) : Type 0 where
-  pub whole : (filledInto frames dom edges mapEntries mapEntries).outcome ≡ accepted
+  pub whole : (filled_into frames dom edges mapEntries mapEntries).outcome ≡ accepted
   pub same :
       (s : Span) (p : ℕ) →
-      get_or (mapOf s (filled frames dom edges base sup)) p 0
-      ≡ get_or (mapOf s (filledInto frames dom edges mapEntries mapEntries)) p 0
+      get_or (map_of s (filled frames dom edges base sup)) p 0
+      ≡ get_or (map_of s (filled_into frames dom edges mapEntries mapEntries)) p 0
 
 abbrev pub FillsWhole : Type 0
 FillsWhole =
@@ -50,7 +50,7 @@ abbrev pub FilledExact : Type 0
 FilledExact =
     (frames : List (List ℕ)) (dom : ℕ) (edges : List Edge) (base sup : List ℕ) →
     (filled frames dom edges base sup).outcome ≡ accepted →
-    (s : Span) → first (exactRows frames dom s edges (mapOf s (filled frames dom edges base sup))) ≡ accepted
+    (s : Span) → first (exact_rows frames dom s edges (map_of s (filled frames dom edges base sup))) ≡ accepted
 
 -- on 15 or 16 the maps hold the edges before the failing one
 pub record Stopped (frames : List (List ℕ)) (dom : ℕ) (edges : List Edge) (n m : ℕ) (r : Row) : Type 0 where
@@ -58,18 +58,18 @@ pub record Stopped (frames : List (List ℕ)) (dom : ℕ) (edges : List Edge) (n
   pub failing : Edge
   pub rest : List Edge
   pub split : edges ≡ before ++ failing ∷ rest
-  pub placed-before : (placedAll frames dom before (clearedMaps n m)).outcome ≡ accepted
-  pub fails : (placed frames dom (placedAll frames dom before (clearedMaps n m)) failing).outcome ≡ refused r
-  pub held : (s : Span) → mapOf s (filledInto frames dom edges n m) ≡ mapOf s (placedAll frames dom before (clearedMaps n m))
+  pub placed_before : (placed_all frames dom before (cleared_maps n m)).outcome ≡ accepted
+  pub fails : (placed frames dom (placed_all frames dom before (cleared_maps n m)) failing).outcome ≡ refused r
+  pub held : (s : Span) → map_of s (filled_into frames dom edges n m) ≡ map_of s (placed_all frames dom before (cleared_maps n m))
 
 -- on 17 all edges
 pub record Conflicting (frames : List (List ℕ)) (dom : ℕ) (edges : List Edge) (n m : ℕ) (r : Row) : Type 0 where
-  pub placed-all : (placedAll frames dom edges (clearedMaps n m)).outcome ≡ accepted
-  pub conflict : (conflicts (placedAll frames dom edges (clearedMaps n m))).outcome ≡ refused r
-  pub held : (s : Span) → mapOf s (filledInto frames dom edges n m) ≡ mapOf s (placedAll frames dom edges (clearedMaps n m))
+  pub placed_whole : (placed_all frames dom edges (cleared_maps n m)).outcome ≡ accepted
+  pub conflict : (conflicts (placed_all frames dom edges (cleared_maps n m))).outcome ≡ refused r
+  pub held : (s : Span) → map_of s (filled_into frames dom edges n m) ≡ map_of s (placed_all frames dom edges (cleared_maps n m))
 
 abbrev pub RefusedHolds : Type 0
 RefusedHolds =
     (frames : List (List ℕ)) (dom : ℕ) (edges : List Edge) (n m : ℕ) (r : Row) →
-    (filledInto frames dom edges n m).outcome ≡ refused r →
+    (filled_into frames dom edges n m).outcome ≡ refused r →
     Stopped frames dom edges n m r ⊎ Conflicting frames dom edges n m r

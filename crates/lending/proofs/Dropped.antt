@@ -17,6 +17,6 @@ module _ {n : ℕ} where
     Silents [] ks = Unit {1}
     Silents (s ∷ ss) ks = Silent 𝓛 n s ks.0 × Silents ss ks.1
 
-    pub dropped-go : (ss : List (Slot n)) (ks : Kepts ss) → Silents ss ks → AllGo 𝓛 n ss ks (dropped ss ks)
-    dropped-go [] ks q = tt
-    dropped-go (s ∷ ss) ks q = (Goes-dropped 𝓛 n s ks.0 q.0, dropped-go ss ks.1 q.1)
+    pub dropped_go : (ss : List (Slot n)) (ks : Kepts ss) → Silents ss ks → AllGo 𝓛 n ss ks (dropped ss ks)
+    dropped_go [] ks q = tt
+    dropped_go (s ∷ ss) ks q = (Goes-dropped 𝓛 n s ks.0 q.0, dropped_go ss ks.1 q.1)

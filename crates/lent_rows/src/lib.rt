@@ -1,15 +1,15 @@
 // Rows 1 to 3 of document 01's table: the arena and the maps that a caller lends.
 ghost use Rattle.std.specs.Prelude.{◌≡◌};
-ghost use Rattle.refusal.specs.Outcome.{outcomeOf};
-ghost use Rattle.refusal.specs.Table.{first, eachFrom};
-ghost use Rattle.rows.specs.Rows.{row1, row2, row3, readRows, lengthRows, mapRows};
+ghost use Rattle.refusal.specs.Outcome.{outcome_of};
+ghost use Rattle.refusal.specs.Table.{first, each_from};
+ghost use Rattle.rows.specs.Rows.{row1, row2, row3, read_rows, length_rows, map_rows};
 
 use layout::Layout;
 use refusal::{Refusal, Verdict};
 
 // Row 1.
 pub fn arena_len(arena: &[u64]) -> Verdict
-    ensures { outcomeOf result ≡ first (row1 arena.now) }
+    ensures { outcome_of result ≡ first (row1 arena.now) }
 {
     if arena.len() != Layout::ARENA_LEN {
         return Verdict::Refused(Refusal::ArenaLength);
@@ -19,7 +19,7 @@ pub fn arena_len(arena: &[u64]) -> Verdict
 
 // Row 2, of one map.
 pub fn map_len(map: &[u8]) -> Verdict
-    ensures { outcomeOf result ≡ first (row2 map.now) }
+    ensures { outcome_of result ≡ first (row2 map.now) }
 {
     if Layout::ENTRIES < map.len() {
         return Verdict::Refused(Refusal::MapLength);
@@ -29,7 +29,7 @@ pub fn map_len(map: &[u8]) -> Verdict
 
 // Row 3, of one map that is read. The pass that finds no position has no branch to take, and most maps need no other.
 pub fn map_codes(code: u64, map: &[u8]) -> Verdict
-    ensures { outcomeOf result ≡ first (eachFrom (row3 code) 0 map.now) }
+    ensures { outcome_of result ≡ first (each_from (row3 code) 0 map.now) }
 {
     if map_entries::largest(map) <= 3 {
         return Verdict::Accepted;
@@ -47,7 +47,7 @@ pub fn map_codes(code: u64, map: &[u8]) -> Verdict
 
 // Rows 2 and 3, of one map that is read.
 pub fn read_map(code: u64, map: &[u8]) -> Verdict
-    ensures { outcomeOf result ≡ first (readRows code map.now) }
+    ensures { outcome_of result ≡ first (read_rows code map.now) }
 {
     let short = map_len(map);
     let Verdict::Accepted = short else {
@@ -58,7 +58,7 @@ pub fn read_map(code: u64, map: &[u8]) -> Verdict
 
 // Row 2, of both maps.
 pub fn map_lens(base: &[u8], sup: &[u8]) -> Verdict
-    ensures { outcomeOf result ≡ first (lengthRows base.now sup.now) }
+    ensures { outcome_of result ≡ first (length_rows base.now sup.now) }
 {
     let verdict = map_len(base);
     let Verdict::Accepted = verdict else {
@@ -69,7 +69,7 @@ pub fn map_lens(base: &[u8], sup: &[u8]) -> Verdict
 
 // Rows 2 and 3, of both maps where they are read.
 pub fn maps(base: &[u8], sup: &[u8]) -> Verdict
-    ensures { outcomeOf result ≡ first (mapRows base.now sup.now) }
+    ensures { outcome_of result ≡ first (map_rows base.now sup.now) }
 {
     let short = map_lens(base, sup);
     let Verdict::Accepted = short else {

@@ -12,11 +12,11 @@ abbrev pub tables : List ℕ
 tables = 0x1000 ∷ 0x2000 ∷ []
 
 -- word 0 of table 1; and one that names table 2, with word 0 of table 2
-abbrev pub inL1 : ℕ → Words
-inL1 d i = pick (eqb i 0) d 0
+abbrev pub in_l1 : ℕ → Words
+in_l1 d i = pick (eqb i 0) d 0
 
-abbrev pub inL2 : ℕ → Words
-inL2 d i = pick (eqb i 0) 0x2003 (pick (eqb i 512) d 0)
+abbrev pub in_l2 : ℕ → Words
+in_l2 d i = pick (eqb i 0) 0x2003 (pick (eqb i 512) d 0)
 
 abbrev pub walked : Words → Reached
 walked words = walk_of tables (λ left. words) 0
@@ -28,32 +28,32 @@ machine xnx w = record { xnx = xnx; elsewhere = λ named j. w }
 abbrev pub done : Machine → Words → Access → Translated
 done m words a = translation m tables (λ left. words) a 0
 
-abbrev pub reachRo : Bool → Reached
-reachRo never = At (record { pa = 0; perm = Ro; xn = never })
+abbrev pub reach_ro : Bool → Reached
+reach_ro never = At (record { pa = 0; perm = Ro; xn = never })
 
 pub record Differences : Type 0 where
   -- the access flag clear: reached, and faults
-  pub flag-walked : walked (inL2 0x37D) ≡ reachRo false
-  pub flag : (m : Machine) (a : Access) → done m (inL2 0x37D) a ≡ fault
+  pub flag_walked : walked (in_l2 0x37D) ≡ reach_ro false
+  pub flag : (m : Machine) (a : Access) → done m (in_l2 0x37D) a ≡ fault
   -- a block at level 1: nothing, and 1 GiB
-  pub l1-block-walked : walked (inL1 0x77D) ≡ Nothing
-  pub l1-block : (m : Machine) → done m (inL1 0x77D) reads ≡ byte 0
+  pub l1_block_walked : walked (in_l1 0x77D) ≡ Nothing
+  pub l1_block : (m : Machine) → done m (in_l1 0x77D) reads ≡ byte 0
   -- access 10: nothing, and write-only
-  pub write-only-walked : walked (inL2 0x0040_0000_0000_07BD) ≡ Nothing
-  pub write-only : (m : Machine) → done m (inL2 0x0040_0000_0000_07BD) writes ≡ byte 0
-  pub write-only-read : (m : Machine) → done m (inL2 0x0040_0000_0000_07BD) reads ≡ fault
+  pub write_only_walked : walked (in_l2 0x0040_0000_0000_07BD) ≡ Nothing
+  pub write_only : (m : Machine) → done m (in_l2 0x0040_0000_0000_07BD) writes ≡ byte 0
+  pub write_only_read : (m : Machine) → done m (in_l2 0x0040_0000_0000_07BD) reads ≡ fault
   -- access 00 or 10 with XN clear: nothing, and executed
-  pub execute-00-walked : walked (inL2 0x73D) ≡ Nothing
-  pub execute-00 : (w : ℕ) (el : Level) → done (machine false w) (inL2 0x73D) (executes el) ≡ byte 0
-  pub execute-10-walked : walked (inL2 0x7BD) ≡ Nothing
-  pub execute-10 : (w : ℕ) (el : Level) → done (machine false w) (inL2 0x7BD) (executes el) ≡ byte 0
+  pub execute_00_walked : walked (in_l2 0x73D) ≡ Nothing
+  pub execute_00 : (w : ℕ) (el : Level) → done (machine false w) (in_l2 0x73D) (executes el) ≡ byte 0
+  pub execute_10_walked : walked (in_l2 0x7BD) ≡ Nothing
+  pub execute_10 : (w : ℕ) (el : Level) → done (machine false w) (in_l2 0x7BD) (executes el) ≡ byte 0
   -- bits 54:53 are 11: never, and with FEAT_XNX executed at EL1
-  pub xnx-11-walked : walked (inL2 0x0060_0000_0000_077D) ≡ reachRo true
-  pub xnx-11 : (w : ℕ) → done (machine true w) (inL2 0x0060_0000_0000_077D) (executes el1) ≡ byte 0
-  pub no-xnx-11 : (w : ℕ) (el : Level) → done (machine false w) (inL2 0x0060_0000_0000_077D) (executes el) ≡ fault
+  pub xnx_11_walked : walked (in_l2 0x0060_0000_0000_077D) ≡ reach_ro true
+  pub xnx_11 : (w : ℕ) → done (machine true w) (in_l2 0x0060_0000_0000_077D) (executes el1) ≡ byte 0
+  pub no_xnx_11 : (w : ℕ) (el : Level) → done (machine false w) (in_l2 0x0060_0000_0000_077D) (executes el) ≡ fault
   -- bits 54:53 are 01: executable, and with FEAT_XNX not at EL1
-  pub xnx-01-walked : walked (inL2 0x0020_0000_0000_077D) ≡ reachRo false
-  pub xnx-01 : (w : ℕ) → done (machine true w) (inL2 0x0020_0000_0000_077D) (executes el1) ≡ fault
+  pub xnx_01_walked : walked (in_l2 0x0020_0000_0000_077D) ≡ reach_ro false
+  pub xnx_01 : (w : ℕ) → done (machine true w) (in_l2 0x0020_0000_0000_077D) (executes el1) ≡ fault
   -- a table outside the arena: nothing, and what stands there
-  pub outside-walked : walked (inL1 0x3003) ≡ Nothing
-  pub outside : done (machine false 0x77D) (inL1 0x3003) reads ≡ byte 0
+  pub outside_walked : walked (in_l1 0x3003) ≡ Nothing
+  pub outside : done (machine false 0x77D) (in_l1 0x3003) reads ≡ byte 0

@@ -1,11 +1,11 @@
 -- Stage 2 translation, from DDI 0487 alone: VMSAv8-64, 4 KB granule, 39-bit input, start level 1, 48 output bits. Shared with the
 -- walk are the index bits and the fetch.
 use Rattle.std.specs.Prelude.{ℕ, ◌+◌, ◌*◌, ◌^◌, Bool, true, false, not, ◌&&◌, List, eqb, ltb, get_or}
-use Rattle.desc.specs.Descriptor.{descriptorType, blockType, tableType, pageType, af, pageAddress, blockAddress}
+use Rattle.desc.specs.Descriptor.{descriptor_type, block_type, table_type, page_type, af, page_address, block_address}
 use Rattle.descent.specs.Descent.{Words, index, fetch}
 use Rattle.fields.specs.Bits.{bits}
 use Rattle.fields.specs.Named.{pick}
-use Rattle.perm.specs.Perm.{permWrites}
+use Rattle.perm.specs.Perm.{perm_writes}
 use Rattle.reach.specs.declared.Reach.{Reach}
 use Rattle.reach.specs.declared.Reached.{Reached}
 use Rattle.reach.specs.declared.Reached.TheVariants.{At, Nothing}
@@ -55,21 +55,21 @@ module _ (m : Machine) (tables : List ℕ) (ws : ℕ → Words) (a : Access) (x 
   unfoldable pub level3 : ℕ → Translated
   level3 named =
       let d = lookup 0 named in
-      pick (eqb (descriptorType d) pageType) (leaf m.xnx a (pageAddress d + bits 11 0 x) d) fault
+      pick (eqb (descriptor_type d) page_type) (leaf m.xnx a (page_address d + bits 11 0 x) d) fault
 
   -- level 2: 11 is a table, 01 a block of 2 MiB, output 47:21
   unfoldable pub level2 : ℕ → Translated
   level2 named =
       let d = lookup 1 named in
-      pick (eqb (descriptorType d) tableType) (level3 (pageAddress d))
-      (pick (eqb (descriptorType d) blockType) (leaf m.xnx a (blockAddress d + bits 20 0 x) d) fault)
+      pick (eqb (descriptor_type d) table_type) (level3 (page_address d))
+      (pick (eqb (descriptor_type d) block_type) (leaf m.xnx a (block_address d + bits 20 0 x) d) fault)
 
   -- level 1: 11 is a table, 01 a block of 1 GiB, output 47:30
   unfoldable pub level1 : ℕ → Translated
   level1 named =
       let d = lookup 2 named in
-      pick (eqb (descriptorType d) tableType) (level2 (pageAddress d))
-      (pick (eqb (descriptorType d) blockType) (leaf m.xnx a (bits 47 30 d * 2 ^ 30 + bits 29 0 x) d) fault)
+      pick (eqb (descriptor_type d) table_type) (level2 (page_address d))
+      (pick (eqb (descriptor_type d) block_type) (leaf m.xnx a (bits 47 30 d * 2 ^ 30 + bits 29 0 x) d) fault)
 
   -- an input of more than 39 bits faults; the walk starts at the l1 address
   unfoldable pub translation : Translated
@@ -78,7 +78,7 @@ module _ (m : Machine) (tables : List ℕ) (ws : ℕ → Words) (a : Access) (x 
 -- what an answer of the walk lets an access do
 abbrev pub lets : Access → Reach → Bool
 lets reads r = true
-lets writes r = permWrites r.perm
+lets writes r = perm_writes r.perm
 lets (executes el) r = not r.xn
 
 abbrev pub allowed : Access → Reached → Translated

@@ -11,15 +11,15 @@ use lib.Seq.{drop-cons}
 use borrow.Author.Tests.{ltb-true, ltb-false, lt-ltb, le-ltb}
 use Rattle.map_entries.specs.Larger.{larger, largest}
 
-above-first : (a b : ℕ) → a ≤ larger a b
-above-first a b = go (ltb a b) refl
+above_first : (a b : ℕ) → a ≤ larger a b
+above_first a b = go (ltb a b) refl
   where
     go : (t : Bool) → ltb a b ≡ t → a ≤ larger a b
     go true t = let h = ltb-true a b t in rw t (omega (arith, h))
     go false t = rw t (omega arith)
 
-above-second : (a b : ℕ) → b ≤ larger a b
-above-second a b = go (ltb a b) refl
+above_second : (a b : ℕ) → b ≤ larger a b
+above_second a b = go (ltb a b) refl
   where
     go : (t : Bool) → ltb a b ≡ t → b ≤ larger a b
     go true t = rw t (omega arith)
@@ -29,9 +29,9 @@ above-second a b = go (ltb a b) refl
 pub at_most : (xs : List ℕ) (r : ℕ) → r ≡ largest xs → (i : ℕ) → get_or xs i 0 ≤ r
 unfolding largest
 at_most [] r e i = omega arith
-at_most (b ∷ bs) r e zero = let h = above-first b (largest bs) in omega (arith, e, h)
+at_most (b ∷ bs) r e zero = let h = above_first b (largest bs) in omega (arith, e, h)
 at_most (b ∷ bs) r e (suc i) =
-    let h = above-second b (largest bs) in
+    let h = above_second b (largest bs) in
     let below = at_most bs (largest bs) refl i in
     omega (arith, e, h, below)
 
@@ -41,9 +41,9 @@ first a b h = rw (le-ltb a b h)
 second : (a b : ℕ) → a < b → larger a b ≡ b
 second a b h = rw (lt-ltb a b h)
 
-pub zero-larger : (b : ℕ) → larger 0 b ≡ b
-zero-larger zero = refl
-zero-larger (suc b) = second 0 (suc b) (omega arith)
+pub zero_larger : (b : ℕ) → larger 0 b ≡ b
+zero_larger zero = refl
+zero_larger (suc b) = second 0 (suc b) (omega arith)
 
 -- the largest of three
 three : (a b c : ℕ) → larger a (larger b c) ≡ larger (larger a b) c

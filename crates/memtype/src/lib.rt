@@ -1,6 +1,6 @@
 // What a region of memory is, named once and encoded for both stages (hv-s2's arm64.rs).
 ghost use Rattle.std.specs.Prelude.{◌≡◌};
-ghost use Rattle.memtype.specs.Memory.{mairByte, leafBits, shareabilityBits};
+ghost use Rattle.memtype.specs.Memory.{mair_byte, leaf_bits, shareability_bits};
 
 #[derive(Drop)]
 pub enum MemoryType {
@@ -14,7 +14,7 @@ pub enum MemoryType {
 impl MemoryType {
     // The attribute byte of MAIR_ELx.
     pub fn stage1_mair_byte(self) -> u8
-        ensures { result ≡ mairByte self }
+        ensures { result ≡ mair_byte self }
     {
         match self {
             MemoryType::NormalWbIsh => 0xff,
@@ -25,7 +25,7 @@ impl MemoryType {
 
     // MemAttr and SH of a stage-2 leaf. The access flag is no part of a memory type.
     pub fn stage2_leaf_bits(self) -> u64
-        ensures { result ≡ leafBits self }
+        ensures { result ≡ leaf_bits self }
     {
         match self {
             MemoryType::NormalWbIsh => (0b1111 << 2) | (0b11 << 8),
@@ -36,7 +36,7 @@ impl MemoryType {
 
     // SH, at the same bits in both stages.
     pub fn shareability_bits(self) -> u64
-        ensures { result ≡ shareabilityBits self }
+        ensures { result ≡ shareability_bits self }
     {
         match self {
             MemoryType::NormalWbIsh => 0b11 << 8,

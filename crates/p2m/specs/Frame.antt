@@ -11,39 +11,39 @@ use Rattle.page_type.specs.PageType.{kind_of}
 use Rattle.page_type.specs.declared.PtLevel.TheVariants.{L1, L2}
 
 -- maps and spans: base 1, super 2
-abbrev pub spanCode : Span → ℕ
-spanCode Base = 1
-spanCode Super = 2
+abbrev pub span_code : Span → ℕ
+span_code Base = 1
+span_code Super = 2
 
 -- the span that a number says: super's code, all else base
-abbrev pub spanNamed : ℕ → Span
-spanNamed n = pick (eqb n (spanCode Super)) Super Base
+abbrev pub span_named : ℕ → Span
+span_named n = pick (eqb n (span_code Super)) Super Base
 
 -- parent kind 2 is base, 3 is super
-abbrev pub spanKind : Span → ℕ
-spanKind Base = kind_of L1
-spanKind Super = kind_of L2
+abbrev pub span_kind : Span → ℕ
+span_kind Base = kind_of L1
+span_kind Super = kind_of L2
 
-abbrev pub spanOfKind : ℕ → TableSpan
-spanOfKind = named spanKind (Base ∷ Super ∷ []) Leaves Unsupported
+abbrev pub span_of_kind : ℕ → TableSpan
+span_of_kind = named span_kind (Base ∷ Super ∷ []) Leaves Unsupported
 
 -- owner numbers: 0 to 65,535 a domain, above that nobody
-abbrev pub ownerNamed : ℕ → Owner
-ownerNamed n = pick (leb n 65535) (Domain n) Nobody
+abbrev pub owner_named : ℕ → Owner
+owner_named n = pick (leb n 65535) (Domain n) Nobody
 
 -- the owner number of what has no owner
 abbrev pub nobody : ℕ
 nobody = 65536
 
 -- a frame is a row of owner number and kind; one past the list has no owner and is no page table
-abbrev pub noFrame : List ℕ
-noFrame = nobody ∷ 0 ∷ []
+abbrev pub no_frame : List ℕ
+no_frame = nobody ∷ 0 ∷ []
 
 abbrev pub frame_at : List (List ℕ) → ℕ → List ℕ
-frame_at frames m = get_or frames m noFrame
+frame_at frames m = get_or frames m no_frame
 
-abbrev pub ownerOf : List (List ℕ) → ℕ → Owner
-ownerOf frames m = ownerNamed (get_or (frame_at frames m) 0 0)
+abbrev pub owner_of : List (List ℕ) → ℕ → Owner
+owner_of frames m = owner_named (get_or (frame_at frames m) 0 0)
 
 abbrev pub kind_at : List (List ℕ) → ℕ → ℕ
 kind_at frames m = get_or (frame_at frames m) 1 0

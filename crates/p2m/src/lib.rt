@@ -1,6 +1,6 @@
 // Frames by owner and kind (hv-core's p2m.rs), and the span of a table's leaves (hv-s2's leafmap.rs).
 ghost use Rattle.std.specs.Prelude.{◌≡◌};
-ghost use Rattle.p2m.specs.Frame.{spanCode, spanNamed, spanOfKind, ownerOf, kind_at};
+ghost use Rattle.p2m.specs.Frame.{span_code, span_named, span_of_kind, owner_of, kind_at};
 
 // How much guest memory one leaf covers: a page or a block.
 #[derive(Drop)]
@@ -26,7 +26,7 @@ pub enum Owner {
 impl Span {
     // By its code: what is not super's is base.
     pub fn of(code: u32) -> Span
-        ensures { result ≡ spanNamed code }
+        ensures { result ≡ span_named code }
     {
         if code == Span::Super.code() {
             return Span::Super;
@@ -35,7 +35,7 @@ impl Span {
     }
 
     pub fn code(self) -> u32
-        ensures { result ≡ spanCode self }
+        ensures { result ≡ span_code self }
     {
         match self {
             Span::Base => 1,
@@ -46,7 +46,7 @@ impl Span {
 
 // The span of the leaves of a table of this kind.
 pub fn span_of_kind(kind: u32) -> TableSpan
-    ensures { result ≡ spanOfKind kind }
+    ensures { result ≡ span_of_kind kind }
 {
     match kind {
         2 => TableSpan::Leaves(Span::Base),
@@ -57,7 +57,7 @@ pub fn span_of_kind(kind: u32) -> TableSpan
 
 // The owner of a frame: frames are rows of owner number and kind.
 pub fn owner_of(frames: &[[u32; 2]], mfn: u32) -> Owner
-    ensures { result ≡ ownerOf frames.now mfn }
+    ensures { result ≡ owner_of frames.now mfn }
 {
     let at = mfn as usize;
     if frames.len() <= at {
@@ -83,7 +83,7 @@ pub fn kind_of(frames: &[[u32; 2]], mfn: u32) -> u32
 
 // The span of the leaves of a table.
 pub fn span_of_table(frames: &[[u32; 2]], parent: u32) -> TableSpan
-    ensures { result ≡ spanOfKind (kind_at frames.now parent) }
+    ensures { result ≡ span_of_kind (kind_at frames.now parent) }
 {
     span_of_kind(kind_of(frames, parent))
 }

@@ -18,26 +18,26 @@ kind_of L3 = 4
 kind_of L4 = 5
 
 -- all else none of these
-abbrev pub levelOfKind : ℕ → TableLevel
-levelOfKind = named kind_of (L1 ∷ L2 ∷ L3 ∷ L4 ∷ []) Level NoLevel
+abbrev pub level_of_kind : ℕ → TableLevel
+level_of_kind = named kind_of (L1 ∷ L2 ∷ L3 ∷ L4 ∷ []) Level NoLevel
 
 -- a writable frame's kind is none of these: 1
 abbrev pub type_code : PageType → ℕ
 type_code Writable = 1
 type_code (PageTable l) = kind_of l
 
-abbrev pub levelOfType : PageType → TableLevel
-levelOfType Writable = NoLevel
-levelOfType (PageTable l) = Level l
+abbrev pub level_of_type : PageType → TableLevel
+level_of_type Writable = NoLevel
+level_of_type (PageTable l) = Level l
 
 -- an interior entry references the table directly below; nothing is below L1
-abbrev pub childType : PtLevel → ChildType
-childType L1 = NoChild
-childType L2 = Child (PageTable L1)
-childType L3 = Child (PageTable L2)
-childType L4 = Child (PageTable L3)
+abbrev pub child_type : PtLevel → ChildType
+child_type L1 = NoChild
+child_type L2 = Child (PageTable L1)
+child_type L3 = Child (PageTable L2)
+child_type L4 = Child (PageTable L3)
 
 -- a page table's kind names its level, and no other kind does
 pub record KindsName : Type 0 where
-  pub back : (l : PtLevel) → levelOfKind (kind_of l) ≡ Level l
-  pub only : (k : ℕ) (l : PtLevel) → levelOfKind k ≡ Level l → k ≡ kind_of l
+  pub back : (l : PtLevel) → level_of_kind (kind_of l) ≡ Level l
+  pub only : (k : ℕ) (l : PtLevel) → level_of_kind k ≡ Level l → k ≡ kind_of l

@@ -1,6 +1,6 @@
 // What a frame is referenced as: a page, or a page table of a level (hv-core's p2m.rs).
 ghost use Rattle.std.specs.Prelude.{◌≡◌};
-ghost use Rattle.page_type.specs.PageType.{kind_of, levelOfKind, type_code, levelOfType, childType};
+ghost use Rattle.page_type.specs.PageType.{kind_of, level_of_kind, type_code, level_of_type, child_type};
 
 // The level of a page table. L1 is the bottom: its entries map ordinary pages.
 #[derive(Drop)]
@@ -34,7 +34,7 @@ pub enum TableLevel {
 
 impl PtLevel {
     pub fn interior_child_type(self) -> ChildType
-        ensures { result ≡ childType self }
+        ensures { result ≡ child_type self }
     {
         match self {
             PtLevel::L1 => ChildType::Nothing,
@@ -59,7 +59,7 @@ impl PtLevel {
 
 impl PageType {
     pub fn level(self) -> TableLevel
-        ensures { result ≡ levelOfType self }
+        ensures { result ≡ level_of_type self }
     {
         match self {
             PageType::Writable => TableLevel::Nothing,
@@ -80,7 +80,7 @@ impl PageType {
 
 // The level of the table that a frame of this kind is.
 pub fn level_of_kind(kind: u32) -> TableLevel
-    ensures { result ≡ levelOfKind kind }
+    ensures { result ≡ level_of_kind kind }
 {
     match kind {
         2 => TableLevel::Level(PtLevel::L1),

@@ -6,30 +6,30 @@ use Rattle.perm.specs.declared.Entry.{Entry}
 use Rattle.perm.specs.declared.Perm.TheVariants.{Ro, Rw, Rx}
 use Rattle.perm.specs.declared.Perm.{Perm}
 
-abbrev pub permCode : Perm → ℕ
-permCode Ro = 1
-permCode Rw = 2
-permCode Rx = 3
+abbrev pub perm_code : Perm → ℕ
+perm_code Ro = 1
+perm_code Rw = 2
+perm_code Rx = 3
 
-abbrev pub permWrites : Perm → Bool
-permWrites Ro = false
-permWrites Rw = true
-permWrites Rx = false
+abbrev pub perm_writes : Perm → Bool
+perm_writes Ro = false
+perm_writes Rw = true
+perm_writes Rx = false
 
-abbrev pub permExecutes : Perm → Bool
-permExecutes Ro = false
-permExecutes Rw = false
-permExecutes Rx = true
+abbrev pub perm_executes : Perm → Bool
+perm_executes Ro = false
+perm_executes Rw = false
+perm_executes Rx = true
 
-abbrev pub entryCode : Entry → ℕ
-entryCode (Mapped p) = permCode p
-entryCode Unmapped = 0
+abbrev pub entry_code : Entry → ℕ
+entry_code (Mapped p) = perm_code p
+entry_code Unmapped = 0
 
 -- what a byte of a map says: a permission, by its code, or unmapped
-abbrev pub entryNamed : ℕ → Entry
-entryNamed = named permCode (Ro ∷ Rw ∷ Rx ∷ []) Mapped Unmapped
+abbrev pub entry_named : ℕ → Entry
+entry_named = named perm_code (Ro ∷ Rw ∷ Rx ∷ []) Mapped Unmapped
 
 -- entries and the bytes that row 3 lets by are the same
 pub record EntriesName : Type 0 where
-  pub back : (e : Entry) → entryNamed (entryCode e) ≡ e
-  pub only : (n : ℕ) → n ≤ 3 → entryCode (entryNamed n) ≡ n
+  pub back : (e : Entry) → entry_named (entry_code e) ≡ e
+  pub only : (n : ℕ) → n ≤ 3 → entry_code (entry_named n) ≡ n

@@ -1,6 +1,6 @@
 // The permission of a leaf (hv-s2's leafmap.rs), and an entry of a leaf map.
 ghost use Rattle.std.specs.Prelude.{◌≡◌};
-ghost use Rattle.perm.specs.Perm.{permCode, permWrites, permExecutes, entryCode, entryNamed};
+ghost use Rattle.perm.specs.Perm.{perm_code, perm_writes, perm_executes, entry_code, entry_named};
 
 // There is none that is writable and executable.
 #[derive(Drop)]
@@ -19,7 +19,7 @@ pub enum Entry {
 
 impl Perm {
     pub fn writable(self) -> bool
-        ensures { result ≡ permWrites self }
+        ensures { result ≡ perm_writes self }
     {
         match self {
             Perm::Rw => true,
@@ -29,7 +29,7 @@ impl Perm {
     }
 
     pub fn executable(self) -> bool
-        ensures { result ≡ permExecutes self }
+        ensures { result ≡ perm_executes self }
     {
         match self {
             Perm::Rx => true,
@@ -40,7 +40,7 @@ impl Perm {
 
     // The entry of a leaf map that says this permission.
     pub fn code(self) -> u8
-        ensures { result ≡ permCode self }
+        ensures { result ≡ perm_code self }
     {
         match self {
             Perm::Ro => 1,
@@ -53,7 +53,7 @@ impl Perm {
 impl Entry {
     // The entry that a byte of a map says: what is no permission's code is unmapped.
     pub fn of(code: u8) -> Entry
-        ensures { result ≡ entryNamed code }
+        ensures { result ≡ entry_named code }
     {
         match code {
             1 => Entry::Mapped(Perm::Ro),
@@ -64,7 +64,7 @@ impl Entry {
     }
 
     pub fn code(self) -> u8
-        ensures { result ≡ entryCode self }
+        ensures { result ≡ entry_code self }
     {
         match self {
             Entry::Mapped(perm) => perm.code(),

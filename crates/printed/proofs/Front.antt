@@ -6,27 +6,27 @@ use mathlib.Core.Path.{ap}
 use native.Mathlib.Omega.{arith}
 use lib.Dec.{ltb}
 use lib.ListN.{length, drop, length-append}
-use Rattle.fields.specs.Ascii.{lineFeed}
+use Rattle.fields.specs.Ascii.{line_feed}
 use Rattle.fields.specs.Named.{pick}
-use Rattle.printed.specs.Line.{decimal, refusedLine, longest, Puts}
+use Rattle.printed.specs.Line.{decimal, refused_line, longest, Puts}
 
 pub lies_within : (text old : List ℕ) (n : ℕ) (new : List ℕ) → Puts text old n new → n ≤ length new
 lies_within text old n new p =
     omega (arith, p.long, ap length p.bytes, length-append text (drop (length text) old))
 
 -- as many digits as there is room for
-few-digits : (k n : ℕ) → length (decimal k n) ≤ k
+few_digits : (k n : ℕ) → length (decimal k n) ≤ k
 unfolding decimal
-few-digits zero n = omega arith
-few-digits (suc k) n =
+few_digits zero n = omega arith
+few_digits (suc k) n =
     let front = pick (ltb n 10) [] (decimal k (n / 10)) in
-    omega (arith, length-append front ((0x30 + n % 10) ∷ []), go (ltb n 10) (few-digits k (n / 10)))
+    omega (arith, length-append front ((0x30 + n % 10) ∷ []), go (ltb n 10) (few_digits k (n / 10)))
   where
     go : (b : Bool) → length (decimal k (n / 10)) ≤ k → length (pick b [] (decimal k (n / 10))) ≤ k
     go true few = omega arith
     go false few = few
 
-pub refused-short : (number : ℕ) → length (refusedLine number) ≤ longest
-unfolding refusedLine
-refused-short number =
-    omega (arith, few-digits 20 number, length-append (decimal 20 number) (lineFeed ∷ []))
+pub refused_short : (number : ℕ) → length (refused_line number) ≤ longest
+unfolding refused_line
+refused_short number =
+    omega (arith, few_digits 20 number, length-append (decimal 20 number) (line_feed ∷ []))

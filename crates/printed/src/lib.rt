@@ -1,7 +1,7 @@
 // The lines that the dump prints (document 01, "Proved and printed").
 ghost use Rattle.std.specs.Prelude.{◌+◌, ◌≤◌, ◌≡◌, length};
 ghost use Rattle.std.proofs.Math.Seq.{paste};
-ghost use Rattle.printed.specs.Line.{badLine, refusedLine, longest, Puts};
+ghost use Rattle.printed.specs.Line.{bad_line, refused_line, longest, Puts};
 ghost use Rattle.printed.specs.Word.{word_line};
 
 // The longest line: REFUSED, a space, 20 digits and a line feed.
@@ -9,21 +9,21 @@ pub const LINE: usize = 29;
 
 // Where a line says nothing. The line stands in the front of the buffer; returns its length, as the others do.
 pub fn bad_line(out: &mut [u8; LINE]) -> usize
-    ensures { Puts badLine out.old result out.new }
+    ensures { Puts bad_line out.old result out.new }
 {
     put(b"BAD LINE\n", out, 0)
 }
 
 // A refused scene, by the row's number.
 pub fn refused_line(number: u64, out: &mut [u8; LINE]) -> usize
-    ensures { Puts (refusedLine number) out.old result out.new }
+    ensures { Puts (refused_line number) out.old result out.new }
 {
     put_refused(number, out)
 }
 
 fn put_refused(number: u64, out: &mut [u8]) -> usize
     requires { length out.old ≡ longest }
-    ensures { Puts (refusedLine number) out.old result out.new }
+    ensures { Puts (refused_line number) out.old result out.new }
 {
     let mut digits = [0; 20];
     let count = io::decimal(number, &mut digits);

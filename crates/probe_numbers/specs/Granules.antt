@@ -2,7 +2,7 @@
 use Rattle.std.specs.Prelude.{ℕ, List, [], ◌∷◌}
 use Rattle.fields.specs.Named.{named}
 use Rattle.fields.specs.Numbers.{eight}
-use Rattle.granule.specs.Granule.{pageBits, levelBits, tg0}
+use Rattle.granule.specs.Granule.{page_bits, level_bits, tg0}
 use Rattle.granule.specs.StartLevel.{number, sl0, span}
 use Rattle.granule.specs.declared.Granule.TheVariants.{K4, K16, K64}
 use Rattle.granule.specs.declared.GranuleNamed.TheVariants.{Granule as IsGranule, Reserved as NoGranule}
@@ -17,24 +17,24 @@ use Rattle.sizes.specs.declared.SizeNamed.{SizeNamed}
 use Rattle.sizes.specs.declared.VmidBits.TheVariants.{B8, B16}
 
 -- 11: a granule by TG0
-abbrev pub granuleNumbers : GranuleNamed → List ℕ
-granuleNumbers (IsGranule g) = eight (1 ∷ pageBits g ∷ levelBits g ∷ tg0 g ∷ [])
-granuleNumbers NoGranule = eight []
+abbrev pub granule_numbers : GranuleNamed → List ℕ
+granule_numbers (IsGranule g) = eight (1 ∷ page_bits g ∷ level_bits g ∷ tg0 g ∷ [])
+granule_numbers NoGranule = eight []
 
 -- 12: a start level by SL0
-abbrev pub startLevelNumbers : LevelNamed → List ℕ
-startLevelNumbers (Level l) = eight (1 ∷ number l ∷ sl0 l ∷ span l K4 ∷ span l K16 ∷ span l K64 ∷ [])
-startLevelNumbers NoLevel = eight []
+abbrev pub start_level_numbers : LevelNamed → List ℕ
+start_level_numbers (Level l) = eight (1 ∷ number l ∷ sl0 l ∷ span l K4 ∷ span l K16 ∷ span l K64 ∷ [])
+start_level_numbers NoLevel = eight []
 
 -- 13: an output size by PS
-abbrev pub sizeNumbers : SizeNamed → List ℕ
-sizeNumbers (Size s) = eight (1 ∷ ps s ∷ [])
-sizeNumbers NoSize = eight []
+abbrev pub size_numbers : SizeNamed → List ℕ
+size_numbers (Size s) = eight (1 ∷ ps s ∷ [])
+size_numbers NoSize = eight []
 
 -- 14: the width of a VMID by VS
-abbrev pub widthNamed : ℕ → WidthNamed
-widthNamed = named vs (B8 ∷ B16 ∷ []) Width NoWidth
+abbrev pub width_named : ℕ → WidthNamed
+width_named = named vs (B8 ∷ B16 ∷ []) Width NoWidth
 
-abbrev pub widthNumbers : WidthNamed → List ℕ
-widthNumbers (Width b) = eight (1 ∷ vs b ∷ vmids b ∷ [])
-widthNumbers NoWidth = eight []
+abbrev pub width_numbers : WidthNamed → List ℕ
+width_numbers (Width b) = eight (1 ∷ vs b ∷ vmids b ∷ [])
+width_numbers NoWidth = eight []

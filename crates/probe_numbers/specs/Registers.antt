@@ -7,11 +7,11 @@ use Rattle.sizes.specs.Codes.{ps, vs}
 use Rattle.sizes.specs.declared.VmidBits.TheVariants.{B8, B16}
 use Rattle.vtcr.specs.declared.DecodedVtcr.TheVariants.{Regime, Nothing}
 use Rattle.vtcr.specs.declared.DecodedVtcr.{DecodedVtcr}
-use Rattle.vttbr.specs.Vttbr.{baddr, vmidOf}
+use Rattle.vttbr.specs.Vttbr.{baddr, vmid_of}
 
 -- 16: one more than VS, so that it is not nothing, then the regime's fields in the struct's order
-abbrev pub decodedNumbers : DecodedVtcr → List ℕ
-decodedNumbers (Regime r b) =
+abbrev pub decoded_numbers : DecodedVtcr → List ℕ
+decoded_numbers (Regime r b) =
     (vs b + 1)
     ∷ tg0 r.granule
     ∷ r.ipa_bits
@@ -21,8 +21,8 @@ decodedNumbers (Regime r b) =
     ∷ r.walk_inner
     ∷ r.walk_outer
     ∷ []
-decodedNumbers Nothing = eight []
+decoded_numbers Nothing = eight []
 
 -- 18: the base, and the VMID in both widths
-abbrev pub partNumbers : ℕ → List ℕ
-partNumbers v = eight (baddr v ∷ vmidOf v B8 ∷ vmidOf v B16 ∷ [])
+abbrev pub part_numbers : ℕ → List ℕ
+part_numbers v = eight (baddr v ∷ vmid_of v B8 ∷ vmid_of v B16 ∷ [])

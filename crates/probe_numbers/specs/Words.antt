@@ -6,81 +6,81 @@ use Rattle.decode.specs.declared.DecodedLeaf.TheVariants.{Leaf, Nothing as NoLea
 use Rattle.decode.specs.declared.DecodedLeaf.{DecodedLeaf}
 use Rattle.decode.specs.declared.DecodedTable.TheVariants.{At, Nothing as NoTable}
 use Rattle.decode.specs.declared.DecodedTable.{DecodedTable}
-use Rattle.desc.specs.Descriptor.{blockType, tableType, pageType}
-use Rattle.desc.specs.Words.{pageWord, blockWord, imageWord, deviceWord, leafAccessXn, s2apOf}
+use Rattle.desc.specs.Descriptor.{block_type, table_type, page_type}
+use Rattle.desc.specs.Words.{page_word, block_word, image_word, device_word, leaf_access_xn, s2ap_of}
 use Rattle.fields.specs.Named.{named}
 use Rattle.fields.specs.Numbers.{eight, bit}
-use Rattle.memtype.specs.Memory.{mairByte, leafBits, shareabilityBits}
+use Rattle.memtype.specs.Memory.{mair_byte, leaf_bits, shareability_bits}
 use Rattle.memtype.specs.declared.MemoryType.TheVariants.{NormalWbIsh, NormalNonCacheable, DeviceNGnRnE}
 use Rattle.memtype.specs.declared.MemoryType.{MemoryType}
-use Rattle.perm.specs.Perm.{permCode, permWrites, permExecutes}
+use Rattle.perm.specs.Perm.{perm_code, perm_writes, perm_executes}
 use Rattle.perm.specs.declared.Perm.TheVariants.{Ro, Rw, Rx}
 use Rattle.probe_numbers.specs.declared.words.PermNamed.TheVariants.{Perm as IsPerm, Nothing as NoPerm}
 use Rattle.probe_numbers.specs.declared.words.PermNamed.{PermNamed}
 
 -- 3: a permission by its code, and the exemption
-abbrev pub permNamed : ℕ → PermNamed
-permNamed = named permCode (Ro ∷ Rw ∷ Rx ∷ []) IsPerm NoPerm
+abbrev pub perm_named : ℕ → PermNamed
+perm_named = named perm_code (Ro ∷ Rw ∷ Rx ∷ []) IsPerm NoPerm
 
-abbrev pub permNumbers : PermNamed → Bool → List ℕ
-permNumbers (IsPerm p) exempt =
+abbrev pub perm_numbers : PermNamed → Bool → List ℕ
+perm_numbers (IsPerm p) exempt =
     eight
-    (bit (permWrites p)
-    ∷ bit (permExecutes p)
-    ∷ pageWord p
-    ∷ blockWord p exempt
-    ∷ permCode (leafAccessXn p exempt).access
-    ∷ bit (leafAccessXn p exempt).xn
+    (bit (perm_writes p)
+    ∷ bit (perm_executes p)
+    ∷ page_word p
+    ∷ block_word p exempt
+    ∷ perm_code (leaf_access_xn p exempt).access
+    ∷ bit (leaf_access_xn p exempt).xn
     ∷ [])
-permNumbers NoPerm exempt = eight []
+perm_numbers NoPerm exempt = eight []
 
 -- 4: a memory type, numbered in the Rust's order
-abbrev pub typeNumber : MemoryType → ℕ
-typeNumber NormalWbIsh = 0
-typeNumber NormalNonCacheable = 1
-typeNumber DeviceNGnRnE = 2
+abbrev pub type_number : MemoryType → ℕ
+type_number NormalWbIsh = 0
+type_number NormalNonCacheable = 1
+type_number DeviceNGnRnE = 2
 
-abbrev pub encodingNumbers : MemoryType → List ℕ
-encodingNumbers t = eight (1 ∷ mairByte t ∷ leafBits t ∷ shareabilityBits t ∷ [])
+abbrev pub encoding_numbers : MemoryType → List ℕ
+encoding_numbers t = eight (1 ∷ mair_byte t ∷ leaf_bits t ∷ shareability_bits t ∷ [])
 
-abbrev pub memoryNumbers : ℕ → List ℕ
-memoryNumbers = named typeNumber (NormalWbIsh ∷ NormalNonCacheable ∷ DeviceNGnRnE ∷ []) encodingNumbers (eight [])
+abbrev pub memory_numbers : ℕ → List ℕ
+memory_numbers = named type_number (NormalWbIsh ∷ NormalNonCacheable ∷ DeviceNGnRnE ∷ []) encoding_numbers (eight [])
 
 -- 5: table, page, block, access flag, S2AP of read and write and of read, execute never, the common attributes of a leaf
-abbrev pub constantNumbers : List ℕ
-constantNumbers =
-    tableType
-    ∷ pageType
-    ∷ blockType
+abbrev pub constant_numbers : List ℕ
+constant_numbers =
+    table_type
+    ∷ page_type
+    ∷ block_type
     ∷ (2 ^ 10)
-    ∷ (s2apOf Rw * 2 ^ 6)
-    ∷ (s2apOf Ro * 2 ^ 6)
+    ∷ (s2ap_of Rw * 2 ^ 6)
+    ∷ (s2ap_of Ro * 2 ^ 6)
     ∷ (2 ^ 54)
-    ∷ (leafBits NormalWbIsh + 2 ^ 10)
+    ∷ (leaf_bits NormalWbIsh + 2 ^ 10)
     ∷ []
 
 -- 6: the words of leaves
-abbrev pub wordNumbers : List ℕ
-wordNumbers =
-    imageWord
-    ∷ pageWord Rw
-    ∷ pageWord Ro
-    ∷ pageWord Rx
-    ∷ blockWord Rw false
-    ∷ blockWord Ro false
-    ∷ blockWord Rw true
-    ∷ deviceWord
+abbrev pub word_numbers : List ℕ
+word_numbers =
+    image_word
+    ∷ page_word Rw
+    ∷ page_word Ro
+    ∷ page_word Rx
+    ∷ block_word Rw false
+    ∷ block_word Ro false
+    ∷ block_word Rw true
+    ∷ device_word
     ∷ []
 
 -- 7 to 10: what a word decodes to
-abbrev pub leafNumbers : DecodedLeaf → List ℕ
-leafNumbers (Leaf d) = eight (1 ∷ d.pa ∷ permCode d.perm ∷ bit d.xn ∷ [])
-leafNumbers NoLeaf = eight []
+abbrev pub leaf_numbers : DecodedLeaf → List ℕ
+leaf_numbers (Leaf d) = eight (1 ∷ d.pa ∷ perm_code d.perm ∷ bit d.xn ∷ [])
+leaf_numbers NoLeaf = eight []
 
-abbrev pub tableNumbers : DecodedTable → List ℕ
-tableNumbers (At pa) = eight (1 ∷ pa ∷ [])
-tableNumbers NoTable = eight []
+abbrev pub table_numbers : DecodedTable → List ℕ
+table_numbers (At pa) = eight (1 ∷ pa ∷ [])
+table_numbers NoTable = eight []
 
-abbrev pub deviceNumbers : DecodedBlock → List ℕ
-deviceNumbers (Device d) = eight (1 ∷ d.pa ∷ bit d.xn ∷ [])
-deviceNumbers NoBlock = eight []
+abbrev pub device_numbers : DecodedBlock → List ℕ
+device_numbers (Device d) = eight (1 ∷ d.pa ∷ bit d.xn ∷ [])
+device_numbers NoBlock = eight []

@@ -1,19 +1,19 @@
 // The owner, kind and span of a frame by numbers.
 ghost use Rattle.std.specs.Prelude.{◌≡◌, take};
-ghost use Rattle.probe_numbers.specs.Frames.{frameRow, ownerNumber, spanNumber, frameNumbers, frameAnswer};
+ghost use Rattle.probe_numbers.specs.Frames.{frame_row, owner_number, span_number, frame_numbers, frame_answer};
 
 use p2m::{Owner, TableSpan};
 
 // Up to three rows of owner and kind, how many there are, and the frame.
 pub fn frame(x: &[u64; 8]) -> [u64; 8]
-    ensures { result ≡ frameAnswer x.now }
+    ensures { result ≡ frame_answer x.now }
 {
     let rows = [row(x[0], x[1]), row(x[2], x[3]), row(x[4], x[5])];
     front(&rows, x[6] as usize, (x[7] % 0x1_0000_0000) as u32)
 }
 
 fn row(owner: u64, kind: u64) -> [u32; 2]
-    ensures { result ≡ frameRow owner kind }
+    ensures { result ≡ frame_row owner kind }
 {
     [
         (owner % 0x1_0000_0000) as u32,
@@ -22,7 +22,7 @@ fn row(owner: u64, kind: u64) -> [u32; 2]
 }
 
 fn front(frames: &[[u32; 2]], count: usize, mfn: u32) -> [u64; 8]
-    ensures { result ≡ frameNumbers (take count frames.now) mfn }
+    ensures { result ≡ frame_numbers (take count frames.now) mfn }
 {
     if count < frames.len() {
         return frame_numbers(&frames[..count], mfn);
@@ -31,7 +31,7 @@ fn front(frames: &[[u32; 2]], count: usize, mfn: u32) -> [u64; 8]
 }
 
 fn frame_numbers(frames: &[[u32; 2]], mfn: u32) -> [u64; 8]
-    ensures { result ≡ frameNumbers frames.now mfn }
+    ensures { result ≡ frame_numbers frames.now mfn }
 {
     let owner = owner_number(p2m::owner_of(frames, mfn));
     let kind = p2m::kind_of(frames, mfn) as u64;
@@ -41,7 +41,7 @@ fn frame_numbers(frames: &[[u32; 2]], mfn: u32) -> [u64; 8]
 
 // A domain's number, or the first that is nobody's.
 fn owner_number(o: Owner) -> u64
-    ensures { result ≡ ownerNumber o }
+    ensures { result ≡ owner_number o }
 {
     match o {
         Owner::Domain(n) => n as u64,
@@ -50,7 +50,7 @@ fn owner_number(o: Owner) -> u64
 }
 
 fn span_number(s: TableSpan) -> u64
-    ensures { result ≡ spanNumber s }
+    ensures { result ≡ span_number s }
 {
     match s {
         TableSpan::Leaves(s) => s.code() as u64,

@@ -1,9 +1,9 @@
 // granule and sizes by numbers: each by the code of its field.
 ghost use Rattle.std.specs.Prelude.{◌≡◌};
-ghost use Rattle.granule.specs.Granule.{granuleNamed};
-ghost use Rattle.granule.specs.StartLevel.{levelNamed};
-ghost use Rattle.probe_numbers.specs.Granules.{granuleNumbers, startLevelNumbers, sizeNumbers, widthNamed, widthNumbers};
-ghost use Rattle.sizes.specs.Codes.{sizeNamed};
+ghost use Rattle.granule.specs.Granule.{granule_named};
+ghost use Rattle.granule.specs.StartLevel.{level_named};
+ghost use Rattle.probe_numbers.specs.Granules.{granule_numbers, start_level_numbers, size_numbers, width_named, width_numbers};
+ghost use Rattle.sizes.specs.Codes.{size_named};
 
 use granule::{Granule, GranuleNamed, LevelNamed, StartLevel};
 use sizes::{PaSize, SizeNamed, VmidBits};
@@ -16,7 +16,7 @@ pub enum WidthNamed {
 }
 
 pub fn granule(tg0: u64) -> [u64; 8]
-    ensures { result ≡ granuleNumbers (granuleNamed tg0) }
+    ensures { result ≡ granule_numbers (granule_named tg0) }
 {
     let GranuleNamed::Granule(g) = Granule::from_tg0(tg0) else {
         return [0; 8];
@@ -34,7 +34,7 @@ pub fn granule(tg0: u64) -> [u64; 8]
 }
 
 pub fn start_level(sl0: u64) -> [u64; 8]
-    ensures { result ≡ startLevelNumbers (levelNamed sl0) }
+    ensures { result ≡ start_level_numbers (level_named sl0) }
 {
     let LevelNamed::Level(l) = StartLevel::from_sl0(sl0) else {
         return [0; 8];
@@ -52,7 +52,7 @@ pub fn start_level(sl0: u64) -> [u64; 8]
 }
 
 pub fn pa_size(ps: u64) -> [u64; 8]
-    ensures { result ≡ sizeNumbers (sizeNamed ps) }
+    ensures { result ≡ size_numbers (size_named ps) }
 {
     let SizeNamed::Size(s) = PaSize::from_ps(ps) else {
         return [0; 8];
@@ -61,7 +61,7 @@ pub fn pa_size(ps: u64) -> [u64; 8]
 }
 
 pub fn vmid_bits(vs: u64) -> [u64; 8]
-    ensures { result ≡ widthNumbers (widthNamed vs) }
+    ensures { result ≡ width_numbers (width_named vs) }
 {
     let WidthNamed::Width(b) = width_named(vs) else {
         return [0; 8];
@@ -70,7 +70,7 @@ pub fn vmid_bits(vs: u64) -> [u64; 8]
 }
 
 pub fn width_named(vs: u64) -> WidthNamed
-    ensures { result ≡ widthNamed vs }
+    ensures { result ≡ width_named vs }
 {
     match vs {
         0 => WidthNamed::Width(VmidBits::B8),

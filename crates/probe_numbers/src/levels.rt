@@ -1,7 +1,7 @@
 // Table levels and page types by numbers.
 ghost use Rattle.std.specs.Prelude.{◌≡◌};
-ghost use Rattle.page_type.specs.PageType.{levelOfKind};
-ghost use Rattle.probe_numbers.specs.Levels.{childNumber, tableLevelNumbers, typeNamed, levelNumber, typeNumbers};
+ghost use Rattle.page_type.specs.PageType.{level_of_kind};
+ghost use Rattle.probe_numbers.specs.Levels.{child_number, table_level_numbers, type_named, level_number, type_numbers};
 
 use page_type::{ChildType, PageType, PtLevel, TableLevel};
 
@@ -13,7 +13,7 @@ enum TypeNamed {
 }
 
 pub fn level(kind: u32) -> [u64; 8]
-    ensures { result ≡ tableLevelNumbers (levelOfKind kind) }
+    ensures { result ≡ table_level_numbers (level_of_kind kind) }
 {
     let TableLevel::Level(l) = page_type::level_of_kind(kind) else {
         return [0; 8];
@@ -31,7 +31,7 @@ pub fn level(kind: u32) -> [u64; 8]
 }
 
 pub fn page_type(code: u32) -> [u64; 8]
-    ensures { result ≡ typeNumbers (typeNamed code) }
+    ensures { result ≡ type_numbers (type_named code) }
 {
     let TypeNamed::Named(t) = type_named(code) else {
         return [0; 8];
@@ -40,7 +40,7 @@ pub fn page_type(code: u32) -> [u64; 8]
 }
 
 fn type_named(code: u32) -> TypeNamed
-    ensures { result ≡ typeNamed code }
+    ensures { result ≡ type_named code }
 {
     match code {
         1 => TypeNamed::Named(PageType::Writable),
@@ -53,7 +53,7 @@ fn type_named(code: u32) -> TypeNamed
 }
 
 fn level_number(l: TableLevel) -> u64
-    ensures { result ≡ levelNumber l }
+    ensures { result ≡ level_number l }
 {
     match l {
         TableLevel::Level(l) => l.kind() as u64,
@@ -62,7 +62,7 @@ fn level_number(l: TableLevel) -> u64
 }
 
 fn child_number(c: ChildType) -> u64
-    ensures { result ≡ childNumber c }
+    ensures { result ≡ child_number c }
 {
     match c {
         ChildType::Child(t) => t.code() as u64,

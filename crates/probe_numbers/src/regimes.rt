@@ -1,7 +1,7 @@
 // regime and the encoding of VTCR_EL2 by numbers: each parameter by the code of its field.
 ghost use Rattle.std.specs.Prelude.{◌≡◌};
-ghost use Rattle.probe_numbers.specs.Regimes.{regimeByCodes, isDetermined, determined, isEncoded, encodedValue, numbersOf};
-ghost use Rattle.probe_numbers.specs.Regimes.{regimeAnswer};
+ghost use Rattle.probe_numbers.specs.Regimes.{regime_by_codes, is_determined, determined, is_encoded, encoded_value, numbers_of};
+ghost use Rattle.probe_numbers.specs.Regimes.{regime_answer};
 
 use crate::granules;
 use crate::granules::WidthNamed;
@@ -18,7 +18,7 @@ enum RegimeNamed {
 
 // The regime's parameters in the order of the struct, then the width of a VMID.
 pub fn stage2_regime(x: &[u64; 8]) -> [u64; 8]
-    ensures { result ≡ regimeAnswer x.now }
+    ensures { result ≡ regime_answer x.now }
 {
     let RegimeNamed::Regime(r) = regime_named(x) else {
         return [0; 8];
@@ -30,7 +30,7 @@ pub fn stage2_regime(x: &[u64; 8]) -> [u64; 8]
 }
 
 fn numbers_of(r: Stage2Regime, b: VmidBits) -> [u64; 8]
-    ensures { result ≡ numbersOf r b }
+    ensures { result ≡ numbers_of r b }
 {
     let t0sz = r.t0sz();
     let align = r.table_align();
@@ -48,7 +48,7 @@ fn numbers_of(r: Stage2Regime, b: VmidBits) -> [u64; 8]
 }
 
 fn regime_named(x: &[u64; 8]) -> RegimeNamed
-    ensures { result ≡ regimeByCodes x.now }
+    ensures { result ≡ regime_by_codes x.now }
 {
     let GranuleNamed::Granule(granule) = Granule::from_tg0(x[0]) else {
         return RegimeNamed::Nothing;
@@ -71,7 +71,7 @@ fn regime_named(x: &[u64; 8]) -> RegimeNamed
 }
 
 fn is_determined(d: Determined) -> u64
-    ensures { result ≡ isDetermined d }
+    ensures { result ≡ is_determined d }
 {
     match d {
         Determined::Value(_) => 1,
@@ -89,7 +89,7 @@ fn determined(d: Determined) -> u64
 }
 
 fn is_encoded(v: Vtcr) -> u64
-    ensures { result ≡ isEncoded v }
+    ensures { result ≡ is_encoded v }
 {
     match v {
         Vtcr::Value(_) => 1,
@@ -98,7 +98,7 @@ fn is_encoded(v: Vtcr) -> u64
 }
 
 fn encoded(v: Vtcr) -> u64
-    ensures { result ≡ encodedValue v }
+    ensures { result ≡ encoded_value v }
 {
     match v {
         Vtcr::Value(n) => n,

@@ -1,6 +1,6 @@
 // The decoding of VTCR_EL2, and VTTBR_EL2, by numbers: each parameter by the code of its field.
 ghost use Rattle.std.specs.Prelude.{◌+◌, ◌≡◌};
-ghost use Rattle.probe_numbers.specs.Registers.{decodedNumbers, partNumbers};
+ghost use Rattle.probe_numbers.specs.Registers.{decoded_numbers, part_numbers};
 ghost use Rattle.sizes.specs.Codes.{vs};
 
 use regime::Stage2Regime;
@@ -8,7 +8,7 @@ use sizes::VmidBits;
 use vtcr::DecodedVtcr;
 
 pub fn decoded(d: DecodedVtcr) -> [u64; 8]
-    ensures { result ≡ decodedNumbers d }
+    ensures { result ≡ decoded_numbers d }
 {
     match d {
         DecodedVtcr::Regime(r, b) => regime_numbers(r, b),
@@ -18,7 +18,7 @@ pub fn decoded(d: DecodedVtcr) -> [u64; 8]
 
 // One more than the width's code, so that it is not nothing, then the parameters in the order of the struct.
 fn regime_numbers(r: Stage2Regime, b: VmidBits) -> [u64; 8]
-    ensures { result ≡ decodedNumbers (DecodedVtcr.Regime r b) }
+    ensures { result ≡ decoded_numbers (DecodedVtcr.Regime r b) }
 {
     let granule = r.granule;
     let start_level = r.start_level;
@@ -45,7 +45,7 @@ fn width_number(b: VmidBits) -> u64
 }
 
 pub fn vttbr_parts(v: u64) -> [u64; 8]
-    ensures { result ≡ partNumbers v }
+    ensures { result ≡ part_numbers v }
 {
     [
         vttbr::vttbr_table(v),

@@ -1,7 +1,7 @@
 // perm, memtype, desc and decode by numbers.
 ghost use Rattle.std.specs.Prelude.{◌≡◌};
-ghost use Rattle.probe_numbers.specs.Words.{permNamed, permNumbers, memoryNumbers, encodingNumbers, constantNumbers, wordNumbers};
-ghost use Rattle.probe_numbers.specs.Words.{leafNumbers, tableNumbers, deviceNumbers};
+ghost use Rattle.probe_numbers.specs.Words.{perm_named, perm_numbers, memory_numbers, encoding_numbers, constant_numbers, word_numbers};
+ghost use Rattle.probe_numbers.specs.Words.{leaf_numbers, table_numbers, device_numbers};
 
 use decode::{DecodedBlock, DecodedLeaf, DecodedTable};
 use memtype::MemoryType;
@@ -15,7 +15,7 @@ enum PermNamed {
 }
 
 pub fn permission(code: u64, wx_exempt: bool) -> [u64; 8]
-    ensures { result ≡ permNumbers (permNamed code) wx_exempt }
+    ensures { result ≡ perm_numbers (perm_named code) wx_exempt }
 {
     let PermNamed::Perm(p) = perm_named(code) else {
         return [0; 8];
@@ -35,7 +35,7 @@ pub fn permission(code: u64, wx_exempt: bool) -> [u64; 8]
 }
 
 fn perm_named(code: u64) -> PermNamed
-    ensures { result ≡ permNamed code }
+    ensures { result ≡ perm_named code }
 {
     match code {
         1 => PermNamed::Perm(Perm::Ro),
@@ -46,7 +46,7 @@ fn perm_named(code: u64) -> PermNamed
 }
 
 pub fn memory_type(code: u64) -> [u64; 8]
-    ensures { result ≡ memoryNumbers code }
+    ensures { result ≡ memory_numbers code }
 {
     match code {
         0 => encodings(MemoryType::NormalWbIsh),
@@ -57,7 +57,7 @@ pub fn memory_type(code: u64) -> [u64; 8]
 }
 
 fn encodings(t: MemoryType) -> [u64; 8]
-    ensures { result ≡ encodingNumbers t }
+    ensures { result ≡ encoding_numbers t }
 {
     [
         1,
@@ -72,7 +72,7 @@ fn encodings(t: MemoryType) -> [u64; 8]
 }
 
 pub fn constants() -> [u64; 8]
-    ensures { result ≡ constantNumbers }
+    ensures { result ≡ constant_numbers }
 {
     [
         desc::TABLE,
@@ -87,7 +87,7 @@ pub fn constants() -> [u64; 8]
 }
 
 pub fn words() -> [u64; 8]
-    ensures { result ≡ wordNumbers }
+    ensures { result ≡ word_numbers }
 {
     [
         desc::BLOCK_ROX,
@@ -102,7 +102,7 @@ pub fn words() -> [u64; 8]
 }
 
 pub fn leaf(l: DecodedLeaf) -> [u64; 8]
-    ensures { result ≡ leafNumbers l }
+    ensures { result ≡ leaf_numbers l }
 {
     let DecodedLeaf::Leaf(d) = l else {
         return [0; 8];
@@ -112,7 +112,7 @@ pub fn leaf(l: DecodedLeaf) -> [u64; 8]
 }
 
 pub fn table(t: DecodedTable) -> [u64; 8]
-    ensures { result ≡ tableNumbers t }
+    ensures { result ≡ table_numbers t }
 {
     let DecodedTable::At(pa) = t else {
         return [0; 8];
@@ -121,7 +121,7 @@ pub fn table(t: DecodedTable) -> [u64; 8]
 }
 
 pub fn device(b: DecodedBlock) -> [u64; 8]
-    ensures { result ≡ deviceNumbers b }
+    ensures { result ≡ device_numbers b }
 {
     let DecodedBlock::Device(d) = b else {
         return [0; 8];

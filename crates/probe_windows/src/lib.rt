@@ -1,7 +1,7 @@
 // `window_reach` for the comparison with the Rust, which alone links it: a layout's numbers and two maps in, the nine numbers of the
 // answer out.
 ghost use Rattle.std.specs.Prelude.{◌≡◌};
-ghost use Rattle.probe_windows.specs.Answer.{grantedAnswer};
+ghost use Rattle.probe_windows.specs.Answer.{granted_answer};
 
 use layout::Layout;
 
@@ -13,7 +13,7 @@ pub extern "C" fn probe_windows(
     ipa: u64,
     out: &mut [u64; 9],
 )
-    ensures { out.new ≡ grantedAnswer numbers.now base.now sup.now ipa }
+    ensures { out.new ≡ granted_answer numbers.now base.now sup.now ipa }
 {
     *out = window_reach::window_reach(base, sup, layout_numbers::layout_of(numbers), ipa).words();
 }

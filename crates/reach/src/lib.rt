@@ -1,8 +1,8 @@
 // What an address reaches, as an answer (hv-s2's arm64.rs, `Reach`).
 ghost use Rattle.std.specs.Prelude.{◌≡◌};
-ghost use Rattle.perm.specs.Perm.{permWrites};
-ghost use Rattle.reach.specs.Reach.{reachValues, toldOf};
-ghost use Rattle.refusal.specs.Told.{told, toldWords};
+ghost use Rattle.perm.specs.Perm.{perm_writes};
+ghost use Rattle.reach.specs.Reach.{reach_values, told_of};
+ghost use Rattle.refusal.specs.Told.{told, told_words};
 
 use perm::Perm;
 use refusal::Refusal;
@@ -30,7 +30,7 @@ pub enum Walked {
 
 impl Reach {
     pub fn writable(self) -> bool
-        ensures { result ≡ permWrites self.perm }
+        ensures { result ≡ perm_writes self.perm }
     {
         let perm = self.perm;
         perm.writable()
@@ -40,7 +40,7 @@ impl Reach {
 impl Reached {
     // 0, and the values.
     pub fn words(self) -> [u64; 9]
-        ensures { result ≡ toldWords reachValues (told self) }
+        ensures { result ≡ told_words reach_values (told self) }
     {
         match self {
             Reached::At(reach) => {
@@ -57,7 +57,7 @@ impl Reached {
 impl Walked {
     // The number, 0 where it is told, and the values: for callers that have no enums.
     pub fn words(self) -> [u64; 9]
-        ensures { result ≡ toldWords reachValues (toldOf self) }
+        ensures { result ≡ told_words reach_values (told_of self) }
     {
         match self {
             Walked::Told(reached) => reached.words(),

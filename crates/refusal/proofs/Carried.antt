@@ -5,23 +5,23 @@ use mathlib.Core.Path.{◌≡◌, refl}
 use lib.ListN.{get_or}
 use Rattle.decode.specs.declared.DecodedLeaf.TheVariants.{Leaf, Nothing as NoLeaf}
 use Rattle.decode.specs.declared.DecodedLeaf.{DecodedLeaf}
-use Rattle.refusal.specs.Outcome.{leafValues, wantedValues, row_of, rowWords}
+use Rattle.refusal.specs.Outcome.{leaf_values, wanted_values, row_of, row_words}
 use Rattle.refusal.specs.declared.Refusal.TheVariants.{BadImageBlock, BadLeaf}
 
-pub image-carried :
+pub image_carried :
     (e : ℕ) (found : DecodedLeaf) →
-    let f = leafValues found in
-    (19 ∷ get_or f 0 0 ∷ get_or f 1 0 ∷ get_or f 2 0 ∷ get_or f 3 0 ∷ e ∷ 0 ∷ 0 ∷ 0 ∷ []) ≡ rowWords (row_of (BadImageBlock found e))
-image-carried e (Leaf a) = refl
-image-carried e NoLeaf = refl
+    let f = leaf_values found in
+    (19 ∷ get_or f 0 0 ∷ get_or f 1 0 ∷ get_or f 2 0 ∷ get_or f 3 0 ∷ e ∷ 0 ∷ 0 ∷ 0 ∷ []) ≡ row_words (row_of (BadImageBlock found e))
+image_carried e (Leaf a) = refl
+image_carried e NoLeaf = refl
 
-pub leaf-carried :
+pub leaf_carried :
     (m : ℕ) (found want : DecodedLeaf) →
-    let f = leafValues found in
-    let w = wantedValues want in
+    let f = leaf_values found in
+    let w = wanted_values want in
     (20 ∷ m ∷ get_or f 0 0 ∷ get_or f 1 0 ∷ get_or f 2 0 ∷ get_or f 3 0 ∷ get_or w 0 0 ∷ get_or w 1 0 ∷ get_or w 2 0 ∷ [])
-    ≡ rowWords (row_of (BadLeaf m found want))
-leaf-carried m (Leaf a) (Leaf b) = refl
-leaf-carried m (Leaf a) NoLeaf = refl
-leaf-carried m NoLeaf (Leaf b) = refl
-leaf-carried m NoLeaf NoLeaf = refl
+    ≡ row_words (row_of (BadLeaf m found want))
+leaf_carried m (Leaf a) (Leaf b) = refl
+leaf_carried m (Leaf a) NoLeaf = refl
+leaf_carried m NoLeaf (Leaf b) = refl
+leaf_carried m NoLeaf NoLeaf = refl

@@ -7,7 +7,7 @@ use native.Mathlib.Nat.{le_of_suc-le-suc, not-suc-le-zero}
 use native.Mathlib.Omega.{arith}
 use lib.ListN.{length, get_or}
 use Rattle.refusal.specs.All.{All, AllPairs}
-use Rattle.refusal.specs.Table.{Row, row, accepted, refused, first, given, refuseIf, each, eachFrom, pairs}
+use Rattle.refusal.specs.Table.{Row, row, accepted, refused, first, given, refuse_if, each, each_from, pairs}
 
 pub none : (rows : List Row) → first rows ≡ accepted → rows ≡ []
 unfolding first
@@ -29,7 +29,7 @@ pub only : (t : Bool) (r : Row) → given t (r ∷ []) ≡ [] → t ≡ false
 only true r e = absurd (let z : ◌≡◌ {A = ℕ} 0 1 = cc in omega arith)
 only false r e = refl
 
-pub test : (t : Bool) (n : ℕ) (vs : List ℕ) → refuseIf t n vs ≡ [] → t ≡ false
+pub test : (t : Bool) (n : ℕ) (vs : List ℕ) → refuse_if t n vs ≡ [] → t ≡ false
 test t n vs e = only t (row n vs) e
 
 pub under : (t : Bool) (rows : List Row) → t ≡ true → given t rows ≡ [] → rows ≡ []
@@ -41,32 +41,32 @@ unfolding flat_map
 each_none f [] e = tt
 each_none f (x ∷ xs) e = let p = both (f x) (each f xs) e in (p.0, each_none f xs p.1)
 
-pub each-nowhere : {A : Type 0} (f : A → List Row) (xs : List A) → All (λ x. f x ≡ []) xs → each f xs ≡ []
+pub each_nowhere : {A : Type 0} (f : A → List Row) (xs : List A) → All (λ x. f x ≡ []) xs → each f xs ≡ []
 unfolding flat_map
-each-nowhere f [] all = refl
-each-nowhere f (x ∷ xs) all = rw (all.0, each-nowhere f xs all.1)
+each_nowhere f [] all = refl
+each_nowhere f (x ∷ xs) all = rw (all.0, each_nowhere f xs all.1)
 
-pub pairs-none : {A : Type 0} (f : A → A → List Row) (xs : List A) → pairs f xs ≡ [] → AllPairs (λ x y. f x y ≡ []) xs
+pub pairs_none : {A : Type 0} (f : A → A → List Row) (xs : List A) → pairs f xs ≡ [] → AllPairs (λ x y. f x y ≡ []) xs
 unfolding pairs
-pairs-none f [] e = tt
-pairs-none f (x ∷ xs) e =
-    let p = both (each (f x) xs) (pairs f xs) e in (each_none (f x) xs p.0, pairs-none f xs p.1)
+pairs_none f [] e = tt
+pairs_none f (x ∷ xs) e =
+    let p = both (each (f x) xs) (pairs f xs) e in (each_none (f x) xs p.0, pairs_none f xs p.1)
 
 from :
     {A : Type 0} (f : ℕ → A → List Row) (k : ℕ) (xs : List A) (d : A) →
-    eachFrom f k xs ≡ [] → (i : ℕ) → i < length xs → f (k + i) (get_or xs i d) ≡ []
-unfolding eachFrom
+    each_from f k xs ≡ [] → (i : ℕ) → i < length xs → f (k + i) (get_or xs i d) ≡ []
+unfolding each_from
 from f k [] d e i h = absurd (not-suc-le-zero h)
 from f k (x ∷ xs) d e zero h =
-    let s : k + 0 ≡ k = omega arith in rw s (both (f k x) (eachFrom f (suc k) xs) e).0
+    let s : k + 0 ≡ k = omega arith in rw s (both (f k x) (each_from f (suc k) xs) e).0
 from f k (x ∷ xs) d e (suc i) h =
     let s : k + suc i ≡ suc k + i = omega arith in
-    rw s (from f (suc k) xs d (both (f k x) (eachFrom f (suc k) xs) e).1 i (le_of_suc-le-suc h))
+    rw s (from f (suc k) xs d (both (f k x) (each_from f (suc k) xs) e).1 i (le_of_suc-le-suc h))
 
 nowhere :
     {A : Type 0} (f : ℕ → A → List Row) (k : ℕ) (xs : List A) (d : A) →
-    ((i : ℕ) → i < length xs → f (k + i) (get_or xs i d) ≡ []) → eachFrom f k xs ≡ []
-unfolding eachFrom
+    ((i : ℕ) → i < length xs → f (k + i) (get_or xs i d) ≡ []) → each_from f k xs ≡ []
+unfolding each_from
 nowhere f k [] d all = refl
 nowhere f k (x ∷ xs) d all =
     let z : k + 0 ≡ k = omega arith in
@@ -74,12 +74,12 @@ nowhere f k (x ∷ xs) d all =
     let later = nowhere f (suc k) xs d (λ i h. let s : suc k + i ≡ k + suc i = omega arith in rw s (all (suc i) (suc-le-suc h))) in
     rw (here, later)
 
-pub from-nowhere :
+pub from_nowhere :
     {A : Type 0} (f : ℕ → A → List Row) (xs : List A) (d : A) →
-    ((i : ℕ) → i < length xs → f i (get_or xs i d) ≡ []) → eachFrom f 0 xs ≡ []
-from-nowhere f xs d all = nowhere f 0 xs d (λ i h. let s : 0 + i ≡ i = omega arith in rw s (all i h))
+    ((i : ℕ) → i < length xs → f i (get_or xs i d) ≡ []) → each_from f 0 xs ≡ []
+from_nowhere f xs d all = nowhere f 0 xs d (λ i h. let s : 0 + i ≡ i = omega arith in rw s (all i h))
 
-pub from-none :
+pub from_none :
     {A : Type 0} (f : ℕ → A → List Row) (xs : List A) (d : A) →
-    eachFrom f 0 xs ≡ [] → (i : ℕ) → i < length xs → f i (get_or xs i d) ≡ []
-from-none f xs d e i h = let s : 0 + i ≡ i = omega arith in rw s at (from f 0 xs d e i h)
+    each_from f 0 xs ≡ [] → (i : ℕ) → i < length xs → f i (get_or xs i d) ≡ []
+from_none f xs d e i h = let s : 0 + i ≡ i = omega arith in rw s at (from f 0 xs d e i h)

@@ -1,15 +1,15 @@
 -- What is told after a verdict: an accepting one tells, a refusing one is passed on.
 use mathlib.Core.Path.{◌≡◌, sym, ap, ◌∙◌}
-use Rattle.refusal.specs.Outcome.{outcomeOf, row_of}
+use Rattle.refusal.specs.Outcome.{outcome_of, row_of}
 use Rattle.refusal.specs.Table.{Outcome}
 use Rattle.refusal.specs.Told.{told, denied, after}
 use Rattle.refusal.specs.declared.Refusal.{Refusal}
 use Rattle.refusal.specs.declared.Verdict.{Verdict}
 use Rattle.refusal.specs.declared.Verdict.TheVariants.{Accepted, Refused}
 
-module _ {A : Type 0} (o : Outcome) (v : Verdict) (e : outcomeOf v ≡ o) where
+module _ {A : Type 0} (o : Outcome) (v : Verdict) (e : outcome_of v ≡ o) where
   pub tells : (a b : A) → v ≡ Accepted → a ≡ b → told a ≡ after o b
-  tells a b t s = ap told s ∙ ap (λ x. after x b) (sym (ap outcomeOf t) ∙ e)
+  tells a b t s = ap told s ∙ ap (λ x. after x b) (sym (ap outcome_of t) ∙ e)
 
   pub denies : (r : Refusal) (b : A) → v ≡ Refused r → denied (row_of r) ≡ after o b
-  denies r b t = ap (λ x. after x b) (sym (ap outcomeOf t) ∙ e)
+  denies r b t = ap (λ x. after x b) (sym (ap outcome_of t) ∙ e)

@@ -5,7 +5,7 @@ use mathlib.Core.Path.{◌≡◌, sym, ap, ◌∙◌}
 use native.Mathlib.Omega.{arith}
 use lib.ListN.{length, get_or, drop, drop_of_length-le}
 use lib.Seq.{drop-cons}
-use Rattle.refusal.specs.Outcome.{outcomeOf, outcomeWords}
+use Rattle.refusal.specs.Outcome.{outcome_of, outcome_words}
 use Rattle.refusal.specs.declared.Refusal.TheVariants.{ArenaLength, MapLength, MapCode, DeviceWindowUnaligned, GranuleNotEmitted}
 use Rattle.refusal.specs.declared.Refusal.TheVariants.{WindowUnaligned, TableUnnameable, SuperFramesUncountable, RegionCrossesL1}
 use Rattle.refusal.specs.declared.Refusal.TheVariants.{OutputPastLimit, RegionsCollide, WindowsOverlap, TablesEqual, SuperUnbacked}
@@ -15,35 +15,35 @@ use Rattle.refusal.specs.declared.Refusal.TheVariants.{WriteEscalation, Inexact,
 use Rattle.refusal.specs.declared.Verdict.TheVariants.{Accepted, Refused}
 use Rattle.refusal.specs.declared.Verdict.{Verdict}
 
-pub number-below : (v : Verdict) → get_or (outcomeWords (outcomeOf v)) 0 0 < 2 ^ 32
-number-below Accepted = omega arith
-number-below (Refused ArenaLength) = omega arith
-number-below (Refused MapLength) = omega arith
-number-below (Refused (MapCode map position)) = omega arith
-number-below (Refused (DeviceWindowUnaligned base len)) = omega arith
-number-below (Refused (GranuleNotEmitted size)) = omega arith
-number-below (Refused (WindowUnaligned window base align)) = omega arith
-number-below (Refused (TableUnnameable table pa)) = omega arith
-number-below (Refused (SuperFramesUncountable count)) = omega arith
-number-below (Refused (RegionCrossesL1 index span)) = omega arith
-number-below (Refused (OutputPastLimit window base)) = omega arith
-number-below (Refused (RegionsCollide index)) = omega arith
-number-below (Refused WindowsOverlap) = omega arith
-number-below (Refused (TablesEqual first second)) = omega arith
-number-below (Refused (SuperUnbacked position)) = omega arith
-number-below (Refused (UnsupportedSpan parent)) = omega arith
-number-below (Refused (OutOfRange mfn capacity)) = omega arith
-number-below (Refused (SpanConflict mfn)) = omega arith
-number-below (Refused (BadTableEntry table index found expected)) = omega arith
-number-below (Refused (BadImageBlock found expected)) = omega arith
-number-below (Refused (BadLeaf mfn found expected)) = omega arith
-number-below (Refused (SpuriousDescriptor table index desc)) = omega arith
-number-below (Refused (BadDeviceBlock index desc)) = omega arith
-number-below (Refused (UnauthorizedMapping dom mfn owner perm)) = omega arith
-number-below (Refused (WriteEscalation dom mfn owner)) = omega arith
-number-below (Refused (Inexact dom mfn mapped expected)) = omega arith
-number-below (Refused StepPastLast) = omega arith
-number-below (Refused PageTooLong) = omega arith
+pub number_below : (v : Verdict) → get_or (outcome_words (outcome_of v)) 0 0 < 2 ^ 32
+number_below Accepted = omega arith
+number_below (Refused ArenaLength) = omega arith
+number_below (Refused MapLength) = omega arith
+number_below (Refused (MapCode map position)) = omega arith
+number_below (Refused (DeviceWindowUnaligned base len)) = omega arith
+number_below (Refused (GranuleNotEmitted size)) = omega arith
+number_below (Refused (WindowUnaligned window base align)) = omega arith
+number_below (Refused (TableUnnameable table pa)) = omega arith
+number_below (Refused (SuperFramesUncountable count)) = omega arith
+number_below (Refused (RegionCrossesL1 index span)) = omega arith
+number_below (Refused (OutputPastLimit window base)) = omega arith
+number_below (Refused (RegionsCollide index)) = omega arith
+number_below (Refused WindowsOverlap) = omega arith
+number_below (Refused (TablesEqual first second)) = omega arith
+number_below (Refused (SuperUnbacked position)) = omega arith
+number_below (Refused (UnsupportedSpan parent)) = omega arith
+number_below (Refused (OutOfRange mfn capacity)) = omega arith
+number_below (Refused (SpanConflict mfn)) = omega arith
+number_below (Refused (BadTableEntry table index found expected)) = omega arith
+number_below (Refused (BadImageBlock found expected)) = omega arith
+number_below (Refused (BadLeaf mfn found expected)) = omega arith
+number_below (Refused (SpuriousDescriptor table index desc)) = omega arith
+number_below (Refused (BadDeviceBlock index desc)) = omega arith
+number_below (Refused (UnauthorizedMapping dom mfn owner perm)) = omega arith
+number_below (Refused (WriteEscalation dom mfn owner)) = omega arith
+number_below (Refused (Inexact dom mfn mapped expected)) = omega arith
+number_below (Refused StepPastLast) = omega arith
+number_below (Refused PageTooLong) = omega arith
 
 pub nine :
     (w : List ℕ) →

@@ -7,7 +7,7 @@ use Rattle.decode.specs.declared.DecodedTable.{DecodedTable}
 use Rattle.fields.specs.Numbers.{eight, bit}
 use Rattle.p2m.specs.declared.Owner.TheVariants.{Domain, Nobody}
 use Rattle.p2m.specs.declared.Owner.{Owner}
-use Rattle.perm.specs.Perm.{permCode, entryCode}
+use Rattle.perm.specs.Perm.{perm_code, entry_code}
 use Rattle.refusal.specs.Table.{Row, row, Outcome, accepted, refused, given}
 use Rattle.refusal.specs.declared.Refusal.{Refusal}
 use Rattle.refusal.specs.declared.Refusal.TheVariants.{ArenaLength, MapLength, MapCode, DeviceWindowUnaligned, GranuleNotEmitted}
@@ -20,24 +20,24 @@ use Rattle.refusal.specs.declared.Verdict.{Verdict}
 use Rattle.refusal.specs.declared.Verdict.TheVariants.{Accepted, Refused}
 
 -- what may be none, as a refusal carries it: 1 and its values, or zeros. A table is told by its address
-abbrev pub tableValues : DecodedTable → List ℕ
-tableValues (At pa) = 1 ∷ pa ∷ []
-tableValues NoTable = 0 ∷ 0 ∷ []
+abbrev pub table_values : DecodedTable → List ℕ
+table_values (At pa) = 1 ∷ pa ∷ []
+table_values NoTable = 0 ∷ 0 ∷ []
 
 -- a leaf that is found: its address, access (1 Ro, 2 Rw) and execute bit, whatever else a decoder tells
-abbrev pub leafValues : DecodedLeaf → List ℕ
-leafValues (Leaf a) = 1 ∷ a.pa ∷ permCode a.perm ∷ bit a.xn ∷ []
-leafValues NoLeaf = 0 ∷ 0 ∷ 0 ∷ 0 ∷ []
+abbrev pub leaf_values : DecodedLeaf → List ℕ
+leaf_values (Leaf a) = 1 ∷ a.pa ∷ perm_code a.perm ∷ bit a.xn ∷ []
+leaf_values NoLeaf = 0 ∷ 0 ∷ 0 ∷ 0 ∷ []
 
 -- one that is wanted: its address and access
-abbrev pub wantedValues : DecodedLeaf → List ℕ
-wantedValues (Leaf a) = 1 ∷ a.pa ∷ permCode a.perm ∷ []
-wantedValues NoLeaf = 0 ∷ 0 ∷ 0 ∷ []
+abbrev pub wanted_values : DecodedLeaf → List ℕ
+wanted_values (Leaf a) = 1 ∷ a.pa ∷ perm_code a.perm ∷ []
+wanted_values NoLeaf = 0 ∷ 0 ∷ 0 ∷ []
 
 -- an owner: the domain's number
-abbrev pub ownerValues : Owner → List ℕ
-ownerValues (Domain owner) = 1 ∷ owner ∷ []
-ownerValues Nobody = 0 ∷ 0 ∷ []
+abbrev pub owner_values : Owner → List ℕ
+owner_values (Domain owner) = 1 ∷ owner ∷ []
+owner_values Nobody = 0 ∷ 0 ∷ []
 
 abbrev pub row_of : Refusal → Row
 row_of ArenaLength = row 1 []
@@ -57,14 +57,14 @@ row_of (SuperUnbacked position) = row 14 (position ∷ [])
 row_of (UnsupportedSpan parent) = row 15 (parent ∷ [])
 row_of (OutOfRange mfn capacity) = row 16 (mfn ∷ capacity ∷ [])
 row_of (SpanConflict mfn) = row 17 (mfn ∷ [])
-row_of (BadTableEntry table index found expected) = row 18 (table ∷ index ∷ (tableValues found ++ (expected ∷ [])))
-row_of (BadImageBlock found expected) = row 19 (leafValues found ++ (expected ∷ []))
-row_of (BadLeaf mfn found expected) = row 20 (mfn ∷ (leafValues found ++ wantedValues expected))
+row_of (BadTableEntry table index found expected) = row 18 (table ∷ index ∷ (table_values found ++ (expected ∷ [])))
+row_of (BadImageBlock found expected) = row 19 (leaf_values found ++ (expected ∷ []))
+row_of (BadLeaf mfn found expected) = row 20 (mfn ∷ (leaf_values found ++ wanted_values expected))
 row_of (SpuriousDescriptor table index desc) = row 21 (table ∷ index ∷ desc ∷ [])
 row_of (BadDeviceBlock index desc) = row 22 (index ∷ desc ∷ [])
-row_of (UnauthorizedMapping dom mfn owner perm) = row 23 (dom ∷ mfn ∷ (ownerValues owner ++ (permCode perm ∷ [])))
+row_of (UnauthorizedMapping dom mfn owner perm) = row 23 (dom ∷ mfn ∷ (owner_values owner ++ (perm_code perm ∷ [])))
 row_of (WriteEscalation dom mfn owner) = row 24 (dom ∷ mfn ∷ owner ∷ [])
-row_of (Inexact dom mfn mapped expected) = row 25 (dom ∷ mfn ∷ entryCode mapped ∷ entryCode expected ∷ [])
+row_of (Inexact dom mfn mapped expected) = row 25 (dom ∷ mfn ∷ entry_code mapped ∷ entry_code expected ∷ [])
 row_of StepPastLast = row 26 []
 row_of PageTooLong = row 27 []
 
@@ -72,14 +72,14 @@ row_of PageTooLong = row 27 []
 abbrev pub refuse : Bool → Refusal → List Row
 refuse t r = given t (row_of r ∷ [])
 
-abbrev pub outcomeOf : Verdict → Outcome
-outcomeOf Accepted = accepted
-outcomeOf (Refused r) = refused (row_of r)
+abbrev pub outcome_of : Verdict → Outcome
+outcome_of Accepted = accepted
+outcome_of (Refused r) = refused (row_of r)
 
 -- an outcome as nine numbers: the row's, 0 where accepted, then eight for the values, zeros after them
-abbrev pub rowWords : Row → List ℕ
-rowWords r = r.number ∷ eight r.carried
+abbrev pub row_words : Row → List ℕ
+row_words r = r.number ∷ eight r.carried
 
-abbrev pub outcomeWords : Outcome → List ℕ
-outcomeWords accepted = 0 ∷ eight []
-outcomeWords (refused r) = rowWords r
+abbrev pub outcome_words : Outcome → List ℕ
+outcome_words accepted = 0 ∷ eight []
+outcome_words (refused r) = row_words r

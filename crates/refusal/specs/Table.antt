@@ -24,8 +24,8 @@ given true rs = rs
 given false rs = []
 
 -- row n, where its test holds
-abbrev pub refuseIf : Bool → ℕ → List ℕ → List Row
-refuseIf t n vs = given t (row n vs ∷ [])
+abbrev pub refuse_if : Bool → ℕ → List ℕ → List Row
+refuse_if t n vs = given t (row n vs ∷ [])
 
 -- a row for each element, in order
 abbrev pub each : {A : Type 0} → (A → List Row) → List A → List Row
@@ -41,6 +41,6 @@ abbrev pub all_rows : List (List Row) → List Row
 all_rows rows = each (λ rs. rs) rows
 
 -- a row for each element by its position, from k on
-unfoldable pub eachFrom : {A : Type 0} → (ℕ → A → List Row) → ℕ → List A → List Row
-eachFrom f k [] = []
-eachFrom f k (x ∷ xs) = f k x ++ eachFrom f (suc k) xs
+unfoldable pub each_from : {A : Type 0} → (ℕ → A → List Row) → ℕ → List A → List Row
+each_from f k [] = []
+each_from f k (x ∷ xs) = f k x ++ each_from f (suc k) xs

@@ -1,7 +1,7 @@
 -- What a call tells where no row refuses it.
 use Rattle.std.specs.Prelude.{ℕ, List, ◌∷◌}
 use Rattle.fields.specs.Numbers.{eight}
-use Rattle.refusal.specs.Outcome.{rowWords}
+use Rattle.refusal.specs.Outcome.{row_words}
 use Rattle.refusal.specs.Table.{Row, Outcome, accepted, refused}
 
 pub data Told (A : Type 0) : Type 0 where
@@ -14,6 +14,6 @@ after accepted a = told a
 after (refused r) a = denied r
 
 -- as nine numbers: 0 and the values, or the row's
-abbrev pub toldWords : {A : Type 0} → (A → List ℕ) → Told A → List ℕ
-toldWords values (told a) = 0 ∷ eight (values a)
-toldWords values (denied r) = rowWords r
+abbrev pub told_words : {A : Type 0} → (A → List ℕ) → Told A → List ℕ
+told_words values (told a) = 0 ∷ eight (values a)
+told_words values (denied r) = row_words r

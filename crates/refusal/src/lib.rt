@@ -1,6 +1,6 @@
 // The answer of a call that document 01's table can refuse.
 ghost use Rattle.std.specs.Prelude.{◌≡◌};
-ghost use Rattle.refusal.specs.Outcome.{leafValues, wantedValues, row_of, outcomeOf, rowWords, outcomeWords};
+ghost use Rattle.refusal.specs.Outcome.{leaf_values, wanted_values, row_of, outcome_of, row_words, outcome_words};
 ghost use Rattle.refusal.specs.declared.Refusal.TheVariants.{BadTableEntry, BadImageBlock, BadLeaf, UnauthorizedMapping, Inexact};
 
 use decode::{DecodedLeaf, DecodedTable};
@@ -119,7 +119,7 @@ pub enum Verdict {
 impl Verdict {
     // The number, 0 where accepted, and the carried values: for callers that have no enums.
     pub fn words(self) -> [u64; 9]
-        ensures { result ≡ outcomeWords (outcomeOf self) }
+        ensures { result ≡ outcome_words (outcome_of self) }
     {
         match self {
             Verdict::Accepted => [0; 9],
@@ -131,7 +131,7 @@ impl Verdict {
 impl Refusal {
     // The number and the carried values.
     pub fn words(self) -> [u64; 9]
-        ensures { result ≡ rowWords (row_of self) }
+        ensures { result ≡ row_words (row_of self) }
     {
         match self {
             Refusal::ArenaLength => [1, 0, 0, 0, 0, 0, 0, 0, 0],
@@ -191,7 +191,7 @@ impl Refusal {
 }
 
 fn bad_table_entry(table: u64, index: u64, found: DecodedTable, expected: u64) -> [u64; 9]
-    ensures { result ≡ rowWords (row_of (BadTableEntry table index found expected)) }
+    ensures { result ≡ row_words (row_of (BadTableEntry table index found expected)) }
 {
     match found {
         DecodedTable::At(pa) => [18, table, index, 1, pa, expected, 0, 0, 0],
@@ -200,14 +200,14 @@ fn bad_table_entry(table: u64, index: u64, found: DecodedTable, expected: u64) -
 }
 
 fn bad_image_block(found: DecodedLeaf, expected: u64) -> [u64; 9]
-    ensures { result ≡ rowWords (row_of (BadImageBlock found expected)) }
+    ensures { result ≡ row_words (row_of (BadImageBlock found expected)) }
 {
     let f = leaf_values(found);
     [19, f[0], f[1], f[2], f[3], expected, 0, 0, 0]
 }
 
 fn bad_leaf(mfn: u64, found: DecodedLeaf, expected: DecodedLeaf) -> [u64; 9]
-    ensures { result ≡ rowWords (row_of (BadLeaf mfn found expected)) }
+    ensures { result ≡ row_words (row_of (BadLeaf mfn found expected)) }
 {
     let f = leaf_values(found);
     let e = wanted_values(expected);
@@ -215,7 +215,7 @@ fn bad_leaf(mfn: u64, found: DecodedLeaf, expected: DecodedLeaf) -> [u64; 9]
 }
 
 fn unauthorized_mapping(dom: u64, mfn: u64, owner: Owner, perm: Perm) -> [u64; 9]
-    ensures { result ≡ rowWords (row_of (UnauthorizedMapping dom mfn owner perm)) }
+    ensures { result ≡ row_words (row_of (UnauthorizedMapping dom mfn owner perm)) }
 {
     let entry = perm.code() as u64;
     match owner {
@@ -225,7 +225,7 @@ fn unauthorized_mapping(dom: u64, mfn: u64, owner: Owner, perm: Perm) -> [u64; 9
 }
 
 fn inexact(dom: u64, mfn: u64, mapped: Entry, expected: Entry) -> [u64; 9]
-    ensures { result ≡ rowWords (row_of (Inexact dom mfn mapped expected)) }
+    ensures { result ≡ row_words (row_of (Inexact dom mfn mapped expected)) }
 {
     [
         25,
@@ -242,7 +242,7 @@ fn inexact(dom: u64, mfn: u64, mapped: Entry, expected: Entry) -> [u64; 9]
 
 // A leaf that is found, as a refusal carries it: 1 and its values, or zeros.
 fn leaf_values(found: DecodedLeaf) -> [u64; 4]
-    ensures { result ≡ leafValues found }
+    ensures { result ≡ leaf_values found }
 {
     match found {
         DecodedLeaf::Leaf(leaf) => {
@@ -255,7 +255,7 @@ fn leaf_values(found: DecodedLeaf) -> [u64; 4]
 
 // One that is wanted.
 fn wanted_values(want: DecodedLeaf) -> [u64; 3]
-    ensures { result ≡ wantedValues want }
+    ensures { result ≡ wanted_values want }
 {
     match want {
         DecodedLeaf::Leaf(leaf) => {

@@ -1,7 +1,7 @@
 -- A stage-2 translation regime, by DDI 0487: what makes it valid, and what it determines.
 use Rattle.std.specs.Prelude.{ℕ, ◌-◌, ◌*◌, ◌^◌, max, Bool, ◌&&◌, leb, ltb}
 use Rattle.fields.specs.Named.{pick}
-use Rattle.granule.specs.Granule.{pageBits, levelBits}
+use Rattle.granule.specs.Granule.{page_bits, level_bits}
 use Rattle.granule.specs.StartLevel.{span}
 use Rattle.granule.specs.declared.Granule.TheVariants.{K4}
 use Rattle.granule.specs.declared.StartLevel.TheVariants.{L1}
@@ -12,36 +12,36 @@ use Rattle.sizes.specs.declared.PaSize.TheVariants.{B40}
 
 -- what the walk resolves below its start level
 unfoldable pub below : Stage2Regime → ℕ
-below r = span r.start_level r.granule - levelBits r.granule
+below r = span r.start_level r.granule - level_bits r.granule
 
 -- the input has at most 48 bits and more than a page's; the start level resolves it and the next does not
-unfoldable pub inputFits : Stage2Regime → Bool
-inputFits r =
+unfoldable pub input_fits : Stage2Regime → Bool
+input_fits r =
     leb r.ipa_bits 48
-    && ltb (pageBits r.granule) r.ipa_bits
+    && ltb (page_bits r.granule) r.ipa_bits
     && leb r.ipa_bits (span r.start_level r.granule)
     && ltb (below r) r.ipa_bits
 
 -- and the attributes of the walk's fetches have two bits each
-unfoldable pub validRegime : Stage2Regime → Bool
-validRegime r =
-    inputFits r && leb r.walk_shareability 0b11 && leb r.walk_inner 0b11 && leb r.walk_outer 0b11
+unfoldable pub valid_regime : Stage2Regime → Bool
+valid_regime r =
+    input_fits r && leb r.walk_shareability 0b11 && leb r.walk_inner 0b11 && leb r.walk_outer 0b11
 
 -- T0SZ: the input size as a shrink from 64 bits
-abbrev pub t0szOf : Stage2Regime → Determined
-t0szOf r = pick (leb r.ipa_bits 64) (Value (64 - r.ipa_bits)) Undefined
+abbrev pub t0sz_of : Stage2Regime → Determined
+t0sz_of r = pick (leb r.ipa_bits 64) (Value (64 - r.ipa_bits)) Undefined
 
 -- the start level's table has 8 bytes for each value of the bits that it resolves, and is aligned to its size, at least to 64 bytes;
 -- Undefined where the input has fewer bits than the walk resolves below, or where the size is no 64-bit number
-abbrev pub tableAlign : Stage2Regime → Determined
-tableAlign r =
+abbrev pub table_align : Stage2Regime → Determined
+table_align r =
     pick (leb (below r) r.ipa_bits && ltb (r.ipa_bits - below r) 61)
     (Value (max 64 (8 * 2 ^ (r.ipa_bits - below r))))
     Undefined
 
 -- the regime that is run
-abbrev pub baleenStage2 : Stage2Regime
-baleenStage2 =
+abbrev pub baleen_stage2 : Stage2Regime
+baleen_stage2 =
     record {
       granule = K4;
       ipa_bits = 39;

@@ -1,6 +1,6 @@
 // The stage-2 translation regime (hv-s2's arm64.rs): the parameters that a walker reads the tables under.
 ghost use Rattle.std.specs.Prelude.{◌≡◌};
-ghost use Rattle.regime.specs.Regime.{below, inputFits, validRegime, t0szOf, tableAlign};
+ghost use Rattle.regime.specs.Regime.{below, input_fits, valid_regime, t0sz_of, table_align};
 
 use granule::{Granule, StartLevel};
 use sizes::{PaSize, VmidBits};
@@ -41,7 +41,7 @@ pub const BALEEN_VMID_BITS: VmidBits = VmidBits::B8;
 impl Stage2Regime {
     // Whether a walker can be configured so.
     pub fn valid(self) -> bool
-        ensures { result ≡ validRegime self }
+        ensures { result ≡ valid_regime self }
     {
         if !self.input_fits() {
             return false;
@@ -57,7 +57,7 @@ impl Stage2Regime {
 
     // One table is one page, so the start level resolves the input and the next does not.
     fn input_fits(self) -> bool
-        ensures { result ≡ inputFits self }
+        ensures { result ≡ input_fits self }
     {
         let granule = self.granule;
         let start_level = self.start_level;
@@ -85,7 +85,7 @@ impl Stage2Regime {
 
     // The input size, as a shrink from 64 bits.
     pub fn t0sz(self) -> Determined
-        ensures { result ≡ t0szOf self }
+        ensures { result ≡ t0sz_of self }
     {
         let ipa_bits = self.ipa_bits;
         if 64 < ipa_bits {
@@ -96,7 +96,7 @@ impl Stage2Regime {
 
     // The alignment of the start level's table: an address that lacks it is truncated, not refused.
     pub fn table_align(self) -> Determined
-        ensures { result ≡ tableAlign self }
+        ensures { result ≡ table_align self }
     {
         let ipa_bits = self.ipa_bits;
         let below = self.below();

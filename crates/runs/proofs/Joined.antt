@@ -8,27 +8,27 @@ use lib.Dec.{eqb}
 use borrow.Author.Tests.{eqb-true, eq-eqb}
 use Rattle.fields.specs.Named.{pick}
 use Rattle.fields.specs.Numbers.{bit}
-use Rattle.perm.specs.Perm.{permCode}
-use Rattle.runs.specs.Runs.{goesOn, joined, before}
+use Rattle.perm.specs.Perm.{perm_code}
+use Rattle.runs.specs.Runs.{goes_on, joined, before}
 use Rattle.runs.specs.declared.Run.{Run}
 
 -- what it says that a run goes on in the next
 pub record Follows (r s : Run) : Type 0 where
   pub next : suc r.last ≡ s.first
   pub output : r.pa + (s.first - r.first) ≡ s.pa
-  pub access : permCode r.perm ≡ permCode s.perm
+  pub access : perm_code r.perm ≡ perm_code s.perm
   pub never : bit r.xn ≡ bit s.xn
 
-pub follows : (r s : Run) → goesOn r s ≡ true → Follows r s
+pub follows : (r s : Run) → goes_on r s ≡ true → Follows r s
 follows r s e =
-    go (eqb (suc r.last) s.first) (eqb (r.pa + (s.first - r.first)) s.pa) (eqb (permCode r.perm) (permCode s.perm))
+    go (eqb (suc r.last) s.first) (eqb (r.pa + (s.first - r.first)) s.pa) (eqb (perm_code r.perm) (perm_code s.perm))
     (eqb (bit r.xn) (bit s.xn)) refl refl refl refl e
   where
     go :
         (a b c d : Bool) →
         eqb (suc r.last) s.first ≡ a →
         eqb (r.pa + (s.first - r.first)) s.pa ≡ b →
-        eqb (permCode r.perm) (permCode s.perm) ≡ c →
+        eqb (perm_code r.perm) (perm_code s.perm) ≡ c →
         eqb (bit r.xn) (bit s.xn) ≡ d → (a && b && (c && d)) ≡ true → Follows r s
     go true true true true p q u v t =
         record { next = eqb-true _ _ p; output = eqb-true _ _ q; access = eqb-true _ _ u; never = eqb-true _ _ v }
@@ -37,13 +37,13 @@ follows r s e =
     go true false c d p q u v t = absurd (false≢true t)
     go false b c d p q u v t = absurd (false≢true t)
 
-pub goes_on : (r s : Run) → Follows r s → goesOn r s ≡ true
-goes_on r s f = rw (eq-eqb _ _ f.next, eq-eqb _ _ f.output, eq-eqb _ _ f.access, eq-eqb _ _ f.never)
+pub goes_on_lem : (r s : Run) → Follows r s → goes_on r s ≡ true
+goes_on_lem r s f = rw (eq-eqb _ _ f.next, eq-eqb _ _ f.output, eq-eqb _ _ f.access, eq-eqb _ _ f.never)
 
-pub goes-not-on : (r s : Run) → (Follows r s → ⊥) → goesOn r s ≡ false
-goes-not-on r s none = go (goesOn r s) refl
+pub goes_not_on : (r s : Run) → (Follows r s → ⊥) → goes_on r s ≡ false
+goes_not_on r s none = go (goes_on r s) refl
   where
-    go : (b : Bool) → goesOn r s ≡ b → b ≡ false
+    go : (b : Bool) → goes_on r s ≡ b → b ≡ false
     go false e = refl
     go true e = absurd (none (follows r s e))
 
@@ -52,13 +52,13 @@ abbrev pub Proper : Run → Type 0
 Proper r = r.first ≤ r.last
 
 -- what both as one go on in is what the second goes on in
-pub joined-goes-on : (r s t : Run) → Proper r → Proper s → goesOn r s ≡ true → goesOn (joined r s) t ≡ goesOn s t
-joined-goes-on r s t p q e = go (eqb (suc s.last) t.first) refl
+pub joined_goes_on : (r s t : Run) → Proper r → Proper s → goes_on r s ≡ true → goes_on (joined r s) t ≡ goes_on s t
+joined_goes_on r s t p q e = go (eqb (suc s.last) t.first) refl
   where
     f : Follows r s
     f = follows r s e
 
-    go : (b : Bool) → eqb (suc s.last) t.first ≡ b → goesOn (joined r s) t ≡ goesOn s t
+    go : (b : Bool) → eqb (suc s.last) t.first ≡ b → goes_on (joined r s) t ≡ goes_on s t
     go false z = rw z refl
     go true z =
         let there = eqb-true (suc s.last) t.first z in
@@ -67,20 +67,20 @@ joined-goes-on r s t p q e = go (eqb (suc s.last) t.first) refl
         rw (z, moved, f.access, f.never) refl
 
 module _ (r s : Run) where
-  pub one-before : Proper r → Proper s → goesOn r s ≡ true → (rs : List Run) → before r (before s rs) ≡ before (joined r s) rs
+  pub one_before : Proper r → Proper s → goes_on r s ≡ true → (rs : List Run) → before r (before s rs) ≡ before (joined r s) rs
   unfolding before
-  one-before p q e [] = ap (λ b. pick b (joined r s ∷ []) (r ∷ s ∷ [])) e
-  one-before p q e (t ∷ ts) = go (goesOn s t) refl
+  one_before p q e [] = ap (λ b. pick b (joined r s ∷ []) (r ∷ s ∷ [])) e
+  one_before p q e (t ∷ ts) = go (goes_on s t) refl
     where
-      go : (b : Bool) → goesOn s t ≡ b → before r (before s (t ∷ ts)) ≡ before (joined r s) (t ∷ ts)
-      go true z = rw (z, joined-goes-on r s t p q e ∙ z, e) refl
-      go false z = rw (z, joined-goes-on r s t p q e ∙ z, e) refl
+      go : (b : Bool) → goes_on s t ≡ b → before r (before s (t ∷ ts)) ≡ before (joined r s) (t ∷ ts)
+      go true z = rw (z, joined_goes_on r s t p q e ∙ z, e) refl
+      go false z = rw (z, joined_goes_on r s t p q e ∙ z, e) refl
 
-  pub two-before : goesOn r s ≡ false → (rs : List Run) → before r (before s rs) ≡ r ∷ before s rs
+  pub two_before : goes_on r s ≡ false → (rs : List Run) → before r (before s rs) ≡ r ∷ before s rs
   unfolding before
-  two-before e [] = ap (λ b. pick b (joined r s ∷ []) (r ∷ s ∷ [])) e
-  two-before e (t ∷ ts) = go (goesOn s t) refl
+  two_before e [] = ap (λ b. pick b (joined r s ∷ []) (r ∷ s ∷ [])) e
+  two_before e (t ∷ ts) = go (goes_on s t) refl
     where
-      go : (b : Bool) → goesOn s t ≡ b → before r (before s (t ∷ ts)) ≡ r ∷ before s (t ∷ ts)
+      go : (b : Bool) → goes_on s t ≡ b → before r (before s (t ∷ ts)) ≡ r ∷ before s (t ∷ ts)
       go true z = rw (z, e) refl
       go false z = rw (z, e) refl

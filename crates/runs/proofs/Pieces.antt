@@ -6,67 +6,67 @@ use native.Mathlib.Omega.{arith}
 use Rattle.reach.specs.declared.Reach.{Reach}
 use Rattle.reach.specs.declared.Reached.{Reached}
 use Rattle.reach.specs.declared.Reached.TheVariants.{At, Nothing}
-use Rattle.runs.specs.Runs.{run, before, withAddress, runsFrom}
+use Rattle.runs.specs.Runs.{run, before, with_address, runs_from}
 use Rattle.runs.specs.declared.Run.{Run}
-use Rattle.runs.proofs.Joined.{goes_on, one-before}
+use Rattle.runs.proofs.Joined.{goes_on_lem, one_before}
 
 -- what is reached i bytes on
 abbrev pub further : Reach → ℕ → Reach
 further r i = record { pa = r.pa + i; perm = r.perm; xn = r.xn }
 
 module _ (f : ℕ → Reached) where
-  at_suc : (k x n : ℕ) → runsFrom f x (suc k + n) ≡ withAddress x (f x) (runsFrom f (suc x) (k + n))
-  unfolding runsFrom
-  at_suc k x n = let e : suc k + n ≡ suc (k + n) = omega arith in ap (runsFrom f x) e
+  at_suc : (k x n : ℕ) → runs_from f x (suc k + n) ≡ with_address x (f x) (runs_from f (suc x) (k + n))
+  unfolding runs_from
+  at_suc k x n = let e : suc k + n ≡ suc (k + n) = omega arith in ap (runs_from f x) e
 
-  pub gap : (k x n : ℕ) → ((i : ℕ) → i < k → f (x + i) ≡ Nothing) → runsFrom f x (k + n) ≡ runsFrom f (x + k) n
+  pub gap : (k x n : ℕ) → ((i : ℕ) → i < k → f (x + i) ≡ Nothing) → runs_from f x (k + n) ≡ runs_from f (x + k) n
   gap zero x n none =
       let none_before : x ≡ x + 0 = omega arith in
       let as_many : 0 + n ≡ n = omega arith in
-      ap₂ (runsFrom f) none_before as_many
+      ap₂ (runs_from f) none_before as_many
   gap (suc k) x n none =
       let here : x + 0 ≡ x = omega arith in
       let onward : suc x + k ≡ x + suc k = omega arith in
       at_suc k x n
-      ∙ ap (λ r. withAddress x r (runsFrom f (suc x) (k + n))) (ap f (sym here) ∙ none 0 (omega arith))
+      ∙ ap (λ r. with_address x r (runs_from f (suc x) (k + n))) (ap f (sym here) ∙ none 0 (omega arith))
       ∙ gap k (suc x) n (λ i h. let e : suc x + i ≡ x + suc i = omega arith in ap f e ∙ none (suc i) (omega (arith, h)))
-      ∙ ap (λ y. runsFrom f y n) onward
+      ∙ ap (λ y. runs_from f y n) onward
 
   -- suc k addresses
   module _ (x : ℕ) (r : Reach) where
     begins :
         (m : ℕ) → f (x + 0) ≡ At (further r 0) →
-        withAddress x (f x) (runsFrom f (suc x) m) ≡ before (run x x r) (runsFrom f (suc x) m)
+        with_address x (f x) (runs_from f (suc x) m) ≡ before (run x x r) (runs_from f (suc x) m)
     begins m all =
         let here : x + 0 ≡ x = omega arith in
         let same : r.pa + 0 ≡ r.pa = omega arith in
-        ap (λ a. withAddress x a (runsFrom f (suc x) m))
+        ap (λ a. with_address x a (runs_from f (suc x) m))
         (ap f (sym here) ∙ all ∙ ap (λ (p : ℕ). At (record { pa = p; perm = r.perm; xn = r.xn })) same)
 
     -- one address before those that follow
     lengthens :
         (k m : ℕ) →
         let second = run (suc x) (suc x + k) (further r 1) in
-        before (run x x r) (before second (runsFrom f (suc x + suc k) m)) ≡ before (run x (x + suc k) r) (runsFrom f (x + suc (suc k)) m)
+        before (run x x r) (before second (runs_from f (suc x + suc k) m)) ≡ before (run x (x + suc k) r) (runs_from f (x + suc (suc k)) m)
     lengthens k m =
         let second = run (suc x) (suc x + k) (further r 1) in
         let onward : suc x + k ≡ x + suc k = omega arith in
         let last : suc x + suc k ≡ x + suc (suc k) = omega arith in
-        one-before (run x x r) second (omega arith) (omega arith)
-        (goes_on (run x x r) second (record { next = refl; output = omega arith; access = refl; never = refl }))
-        (runsFrom f (suc x + suc k) m)
-        ∙ ap₂ (λ y rs. before (run x y r) rs) onward (ap (λ y. runsFrom f y m) last)
+        one_before (run x x r) second (omega arith) (omega arith)
+        (goes_on_lem (run x x r) second (record { next = refl; output = omega arith; access = refl; never = refl }))
+        (runs_from f (suc x + suc k) m)
+        ∙ ap₂ (λ y rs. before (run x y r) rs) onward (ap (λ y. runs_from f y m) last)
 
   pub piece :
       (k x n : ℕ) (r : Reach) → ((i : ℕ) → i ≤ k → f (x + i) ≡ At (further r i)) →
-      runsFrom f x (suc k + n) ≡ before (run x (x + k) r) (runsFrom f (x + suc k) n)
+      runs_from f x (suc k + n) ≡ before (run x (x + k) r) (runs_from f (x + suc k) n)
   piece zero x n r all =
       let here : x ≡ x + 0 = omega arith in
       let next : suc x ≡ x + 1 = omega arith in
       let as_many : 0 + n ≡ n = omega arith in
       at_suc 0 x n
       ∙ begins x r (0 + n) (all 0 (omega arith))
-      ∙ ap₂ (λ y rs. before (run x y r) rs) here (ap₂ (runsFrom f) next as_many)
+      ∙ ap₂ (λ y rs. before (run x y r) rs) here (ap₂ (runs_from f) next as_many)
   piece (suc k) x n r all =
       let later = piece k (suc x) n (further r 1)
       (λ i h. let e : suc x + i ≡ x + suc i = omega arith in

@@ -2,7 +2,7 @@
 use Rattle.std.specs.Prelude.{ℕ, zero, suc, ◌+◌, ◌-◌, Bool, ◌&&◌, List, [], ◌∷◌, eqb}
 use Rattle.fields.specs.Named.{pick}
 use Rattle.fields.specs.Numbers.{bit}
-use Rattle.perm.specs.Perm.{permCode}
+use Rattle.perm.specs.Perm.{perm_code}
 use Rattle.reach.specs.declared.Reach.{Reach}
 use Rattle.reach.specs.declared.Reached.{Reached}
 use Rattle.reach.specs.declared.Reached.TheVariants.{At, Nothing}
@@ -13,12 +13,12 @@ abbrev pub run : ℕ → ℕ → Reach → Run
 run first last r = record { first = first; last = last; pa = r.pa; perm = r.perm; xn = r.xn }
 
 -- Ro or Rw, and executable or not
-abbrev pub sameAccess : Run → Run → Bool
-sameAccess r s = eqb (permCode r.perm) (permCode s.perm) && eqb (bit r.xn) (bit s.xn)
+abbrev pub same_access : Run → Run → Bool
+same_access r s = eqb (perm_code r.perm) (perm_code s.perm) && eqb (bit r.xn) (bit s.xn)
 
 -- a run goes on in the next one: the next address, the output as far on, and equal access
-abbrev pub goesOn : Run → Run → Bool
-goesOn r s = eqb (suc r.last) s.first && eqb (r.pa + (s.first - r.first)) s.pa && sameAccess r s
+abbrev pub goes_on : Run → Run → Bool
+goes_on r s = eqb (suc r.last) s.first && eqb (r.pa + (s.first - r.first)) s.pa && same_access r s
 
 -- both as one
 abbrev pub joined : Run → Run → Run
@@ -27,14 +27,14 @@ joined r s = record { first = r.first; last = s.last; pa = r.pa; perm = r.perm; 
 -- a run before those that follow: it is one with the first of them where it goes on in that
 unfoldable pub before : Run → List Run → List Run
 before r [] = r ∷ []
-before r (s ∷ rs) = pick (goesOn r s) (joined r s ∷ rs) (r ∷ s ∷ rs)
+before r (s ∷ rs) = pick (goes_on r s) (joined r s ∷ rs) (r ∷ s ∷ rs)
 
 -- an address, by what it reaches, before the runs of the addresses that follow
-abbrev pub withAddress : ℕ → Reached → List Run → List Run
-withAddress x (At r) rs = before (run x x r) rs
-withAddress x Nothing rs = rs
+abbrev pub with_address : ℕ → Reached → List Run → List Run
+with_address x (At r) rs = before (run x x r) rs
+with_address x Nothing rs = rs
 
 -- the runs of n addresses, from x on
-unfoldable pub runsFrom : (ℕ → Reached) → ℕ → ℕ → List Run
-runsFrom f x zero = []
-runsFrom f x (suc n) = withAddress x (f x) (runsFrom f (suc x) n)
+unfoldable pub runs_from : (ℕ → Reached) → ℕ → ℕ → List Run
+runs_from f x zero = []
+runs_from f x (suc n) = with_address x (f x) (runs_from f (suc x) n)

@@ -1,6 +1,6 @@
 // Runs of addresses, and their lines on the annex page (request M-100).
 ghost use Rattle.std.specs.Prelude.{[], ◌∷◌, ◌≡◌};
-ghost use Rattle.runs.specs.Page.{accessText, executeText, runLine, lastLine};
+ghost use Rattle.runs.specs.Page.{access_text, execute_text, run_line, last_line};
 
 use perm::Perm;
 
@@ -19,7 +19,7 @@ impl Run {
     pub const LINE: usize = 40;
 
     pub fn line(self) -> [u8; 40]
-        ensures { result ≡ runLine self }
+        ensures { result ≡ run_line self }
     {
         let mut line = [b' '; 40];
         text::spell(self.first, &mut line[0..10]);
@@ -35,7 +35,7 @@ impl Run {
 }
 
 fn write_mark(perm: Perm) -> u8
-    ensures { (0x52 ∷ result ∷ []) ≡ accessText perm }
+    ensures { (0x52 ∷ result ∷ []) ≡ access_text perm }
 {
     if perm.writable() {
         return b'W';
@@ -44,7 +44,7 @@ fn write_mark(perm: Perm) -> u8
 }
 
 fn execute_mark(never: bool) -> u8
-    ensures { (result ∷ []) ≡ executeText never }
+    ensures { (result ∷ []) ≡ execute_text never }
 {
     if never {
         return b'-';
@@ -54,7 +54,7 @@ fn execute_mark(never: bool) -> u8
 
 // The line after all runs.
 pub fn last_line() -> [u8; 40]
-    ensures { result ≡ lastLine }
+    ensures { result ≡ last_line }
 {
     let mut line = [b'='; 40];
     line[39] = b'\n';

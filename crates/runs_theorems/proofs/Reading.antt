@@ -12,25 +12,25 @@ use lib.Seq.{take_at, drop_at}
 use borrow.Author.Tests.{ltb-true, ltb-false, le-leb, lt-leb}
 use Rattle.fields.specs.Ascii.{ascii}
 use Rattle.fields.specs.Named.{pick}
-use Rattle.perm.specs.Perm.{permWrites}
+use Rattle.perm.specs.Perm.{perm_writes}
 use Rattle.perm.specs.declared.Perm.{Perm}
 use Rattle.perm.specs.declared.Perm.TheVariants.{Ro, Rw, Rx}
 use Rattle.refusal.specs.All.{All}
-use Rattle.runs.proofs.Page.{line-length, page-none, page-next}
-use Rattle.runs.specs.Page.{accessText, executeText, lineLength, runLine, lastLine, page_of}
+use Rattle.runs.proofs.Page.{line_length_lem, page_none, page_next}
+use Rattle.runs.specs.Page.{access_text, execute_text, line_length, run_line, last_line, page_of}
 use Rattle.runs.specs.declared.Run.{Run}
-use Rattle.scene_line.specs.Line.{digitOf, withDigit, withDigits, number_of}
+use Rattle.scene_line.specs.Line.{digit_of, with_digit, with_digits, number_of}
 use Rattle.scene_line.specs.declared.Number.{Number}
 use Rattle.scene_line.specs.declared.Number.TheVariants.{Value, NoNumber}
 use Rattle.text.specs.Digits.{glyph, digits}
 use Rattle.runs_theorems.proofs.Chain.{with_all}
 use Rattle.runs_theorems.specs.Reading.{Spelled, part, LineTells, PageTells, PagesAreRead, OneReading}
 
-digit-read : (d : ℕ) → d < 16 → digitOf (glyph d) ≡ Value d
-unfolding digitOf
-digit-read d h = go (ltb d 10) refl
+digit_read : (d : ℕ) → d < 16 → digit_of (glyph d) ≡ Value d
+unfolding digit_of
+digit_read d h = go (ltb d 10) refl
   where
-    go : (b : Bool) → ltb d 10 ≡ b → digitOf (glyph d) ≡ Value d
+    go : (b : Bool) → ltb d 10 ≡ b → digit_of (glyph d) ≡ Value d
     go true e =
         let less : d < 10 = ltb-true d 10 e in
         let back : 0x30 + d - 0x30 ≡ d = omega arith in
@@ -47,77 +47,77 @@ digit-read d h = go (ltb d 10) refl
           back,
         ) refl
 
-digits-read : (k n : ℕ) → n < 16 ^ k → withDigits (Value 0) (digits k n) ≡ Value n
-digits-read zero n h = let none : 0 ≡ n = omega (arith, h) in ap Value none
-digits-read (suc k) n h =
+digits_read : (k n : ℕ) → n < 16 ^ k → with_digits (Value 0) (digits k n) ≡ Value n
+digits_read zero n h = let none : 0 ≡ n = omega (arith, h) in ap Value none
+digits_read (suc k) n h =
     let fits : n / 16 < 16 ^ k = (div-lt_iff_lt-mul {k = 16} (omega arith)).1 (rw pow-suc at h) in
     let whole : n / 16 * 16 + n % 16 ≡ n = omega arith in
-    foldl-append (λ m c. withDigit m (digitOf c)) (Value 0) (digits k (n / 16)) (glyph (n % 16) ∷ [])
-    ∙ ap₂ withDigit (digits-read k (n / 16) fits) (digit-read (n % 16) (omega arith))
+    foldl-append (λ m c. with_digit m (digit_of c)) (Value 0) (digits k (n / 16)) (glyph (n % 16) ∷ [])
+    ∙ ap₂ with_digit (digits_read k (n / 16) fits) (digit_read (n % 16) (omega arith))
     ∙ ap Value whole
 
 module _ (r : Run) (s : Spelled r) where
-  first_read : number_of (part (runLine r) 0 10) ≡ Value r.first
-  unfolding runLine number_of
-  first_read = digits-read 10 r.first (omega (arith, s.proper, s.addresses))
+  first_read : number_of (part (run_line r) 0 10) ≡ Value r.first
+  unfolding run_line number_of
+  first_read = digits_read 10 r.first (omega (arith, s.proper, s.addresses))
 
-  last-read : number_of (part (runLine r) 11 10) ≡ Value r.last
-  unfolding runLine number_of
-  last-read = digits-read 10 r.last s.addresses
+  last_read : number_of (part (run_line r) 11 10) ≡ Value r.last
+  unfolding run_line number_of
+  last_read = digits_read 10 r.last s.addresses
 
-  output-read : number_of (part (runLine r) 22 12) ≡ Value r.pa
-  unfolding runLine number_of
-  output-read = digits-read 12 r.pa (omega (arith, s.outputs))
+  output_read : number_of (part (run_line r) 22 12) ≡ Value r.pa
+  unfolding run_line number_of
+  output_read = digits_read 12 r.pa (omega (arith, s.outputs))
 
-  access-read : ((r.perm ≡ Ro) × (part (runLine r) 35 2 ≡ ascii "RO")) ⊎ ((r.perm ≡ Rw) × (part (runLine r) 35 2 ≡ ascii "RW"))
-  unfolding runLine
-  access-read = go r.perm refl
+  access_read : ((r.perm ≡ Ro) × (part (run_line r) 35 2 ≡ ascii "RO")) ⊎ ((r.perm ≡ Rw) × (part (run_line r) 35 2 ≡ ascii "RW"))
+  unfolding run_line
+  access_read = go r.perm refl
     where
       go : (p : Perm) → r.perm ≡ p →
-          ((r.perm ≡ Ro) × (part (runLine r) 35 2 ≡ ascii "RO")) ⊎ ((r.perm ≡ Rw) × (part (runLine r) 35 2 ≡ ascii "RW"))
+          ((r.perm ≡ Ro) × (part (run_line r) 35 2 ≡ ascii "RO")) ⊎ ((r.perm ≡ Rw) × (part (run_line r) 35 2 ≡ ascii "RW"))
       go Ro e = inl (e, rw e refl)
       go Rw e = inr (e, rw e refl)
       go Rx e = absurd (s.access e)
 
-  execute-read : ((r.xn ≡ false) × (part (runLine r) 38 1 ≡ ascii "X")) ⊎ ((r.xn ≡ true) × (part (runLine r) 38 1 ≡ ascii "-"))
-  unfolding runLine
-  execute-read = go (permWrites r.perm) r.xn refl refl
+  execute_read : ((r.xn ≡ false) × (part (run_line r) 38 1 ≡ ascii "X")) ⊎ ((r.xn ≡ true) × (part (run_line r) 38 1 ≡ ascii "-"))
+  unfolding run_line
+  execute_read = go (perm_writes r.perm) r.xn refl refl
     where
-      go : (w x : Bool) → permWrites r.perm ≡ w → r.xn ≡ x →
-          ((r.xn ≡ false) × (part (runLine r) 38 1 ≡ ascii "X")) ⊎ ((r.xn ≡ true) × (part (runLine r) 38 1 ≡ ascii "-"))
+      go : (w x : Bool) → perm_writes r.perm ≡ w → r.xn ≡ x →
+          ((r.xn ≡ false) × (part (run_line r) 38 1 ≡ ascii "X")) ⊎ ((r.xn ≡ true) × (part (run_line r) 38 1 ≡ ascii "-"))
       go true true p e = inr (e, rw (p, e) refl)
       go false true p e = inr (e, rw (p, e) refl)
       go true false p e = inl (e, rw (p, e) refl)
       go false false p e = inl (e, rw (p, e) refl)
 
-  line-tells : LineTells (runLine r) r
-  line-tells =
-      record { first = first_read; last = last-read; output = output-read; access = access-read; execute = execute-read }
+  line_tells : LineTells (run_line r) r
+  line_tells =
+      record { first = first_read; last = last_read; output = output_read; access = access_read; execute = execute_read }
 
-pub pages-are-read : PagesAreRead
-unfolding lastLine
-pages-are-read [] s = page-none
-pages-are-read (r ∷ rs) s =
-    let split = page-next r rs in
-    let line = ap (take lineLength) split ∙ take_at (runLine r) (page_of rs) lineLength (line-length r) in
-    let rest = ap (drop lineLength) split ∙ drop_at (runLine r) (page_of rs) lineLength (line-length r) in (
-      subst (λ l. LineTells l r) (sym line) (line-tells r s.0),
-      subst (λ p. PageTells p rs) (sym rest) (pages-are-read rs s.1),
+pub pages_are_read : PagesAreRead
+unfolding last_line
+pages_are_read [] s = page_none
+pages_are_read (r ∷ rs) s =
+    let split = page_next r rs in
+    let line = ap (take line_length) split ∙ take_at (run_line r) (page_of rs) line_length (line_length_lem r) in
+    let rest = ap (drop line_length) split ∙ drop_at (run_line r) (page_of rs) line_length (line_length_lem r) in (
+      subst (λ l. LineTells l r) (sym line) (line_tells r s.0),
+      subst (λ p. PageTells p rs) (sym rest) (pages_are_read rs s.1),
     )
 
 -- a number that is read is one number
-same-value : (a b : ℕ) → Value a ≡ Value b → a ≡ b
-same-value a b e = cc
+same_value : (a b : ℕ) → Value a ≡ Value b → a ≡ b
+same_value a b e = cc
 
 no_value : (a : ℕ) → NoNumber ≡ Value a → ⊥
 no_value a e = let z : ◌≡◌ {A = ℕ} 0 1 = cc in omega arith
 
-one-run : (line : List ℕ) (r t : Run) → LineTells line r → LineTells line t → r ≡ t
-one-run line r t a b =
+one_run : (line : List ℕ) (r t : Run) → LineTells line r → LineTells line t → r ≡ t
+one_run line r t a b =
     with_all r t
-    (same-value _ _ (sym a.first ∙ b.first))
-    (same-value _ _ (sym a.last ∙ b.last))
-    (same-value _ _ (sym a.output ∙ b.output))
+    (same_value _ _ (sym a.first ∙ b.first))
+    (same_value _ _ (sym a.last ∙ b.last))
+    (same_value _ _ (sym a.output ∙ b.output))
     (access a.access b.access)
     (execute a.execute b.execute)
   where
@@ -150,16 +150,16 @@ one-run line r t a b =
         other e = omega (arith, ap (λ l. get_or l 0 0) e)
 
 -- the last line tells no run
-no_run : (page : List ℕ) (r : Run) → page ≡ ascii "=======================================\n" → LineTells (take lineLength page) r → ⊥
-unfolding number_of digitOf
+no_run : (page : List ℕ) (r : Run) → page ≡ ascii "=======================================\n" → LineTells (take line_length page) r → ⊥
+unfolding number_of digit_of
 no_run page r e a =
-    let none : number_of (part (take lineLength page) 0 10) ≡ NoNumber = ap (λ (p : List ℕ). number_of (part (take lineLength p) 0 10)) e in
+    let none : number_of (part (take line_length page) 0 10) ≡ NoNumber = ap (λ (p : List ℕ). number_of (part (take line_length p) 0 10)) e in
     no_value r.first (sym none ∙ a.first)
 
-pub one-reading : OneReading
-one-reading page [] [] a b = refl
-one-reading page [] (t ∷ ts) a b = absurd (no_run page t a b.0)
-one-reading page (r ∷ rs) [] a b = absurd (no_run page r b a.0)
-one-reading page (r ∷ rs) (t ∷ ts) a b =
-    ap₂ (λ (u : Run) (us : List Run). u ∷ us) (one-run (take lineLength page) r t a.0 b.0)
-    (one-reading (drop lineLength page) rs ts a.1 b.1)
+pub one_reading : OneReading
+one_reading page [] [] a b = refl
+one_reading page [] (t ∷ ts) a b = absurd (no_run page t a b.0)
+one_reading page (r ∷ rs) [] a b = absurd (no_run page r b a.0)
+one_reading page (r ∷ rs) (t ∷ ts) a b =
+    ap₂ (λ (u : Run) (us : List Run). u ∷ us) (one_run (take line_length page) r t a.0 b.0)
+    (one_reading (drop line_length page) rs ts a.1 b.1)

@@ -5,7 +5,7 @@ use Rattle.fields.specs.Named.{pick}
 use Rattle.reach.specs.declared.Reached.{Reached}
 use Rattle.reach.specs.declared.Reached.TheVariants.{At, Nothing}
 use Rattle.refusal.specs.All.{All, AllPairs}
-use Rattle.runs.specs.Runs.{runsFrom}
+use Rattle.runs.specs.Runs.{runs_from}
 use Rattle.runs.specs.declared.Run.{Run}
 
 -- an address lies in a run: neither before its first nor after its last
@@ -13,13 +13,13 @@ abbrev pub holds : Run → ℕ → Bool
 holds r x = leb r.first x && leb x r.last
 
 -- what a run says that an address reaches: the run's output plus the distance, and its access
-abbrev pub runReach : Run → ℕ → Reached
-runReach r x = At (record { pa = r.pa + (x - r.first); perm = r.perm; xn = r.xn })
+abbrev pub run_reach : Run → ℕ → Reached
+run_reach r x = At (record { pa = r.pa + (x - r.first); perm = r.perm; xn = r.xn })
 
 -- what a list of runs says: nothing where the address lies in none
-unfoldable pub reachIn : List Run → ℕ → Reached
-reachIn [] x = Nothing
-reachIn (r ∷ rs) x = pick (holds r x) (runReach r x) (reachIn rs x)
+unfoldable pub reach_in : List Run → ℕ → Reached
+reach_in [] x = Nothing
+reach_in (r ∷ rs) x = pick (holds r x) (run_reach r x) (reach_in rs x)
 
 -- what is reached just before a run could be its first address: the output before its own, with equal access
 abbrev pub Leads : Reached → Run → Type 0
@@ -28,13 +28,13 @@ Leads Nothing r = ⊥
 
 -- it can be lengthened at neither end
 pub record Longest (f : ℕ → Reached) (r : Run) : Type 0 where
-  pub end : f (suc r.last) ≡ runReach r (suc r.last) → ⊥
+  pub end : f (suc r.last) ≡ run_reach r (suc r.last) → ⊥
   pub front : (x : ℕ) → suc x ≡ r.first → Leads (f x) r → ⊥
 
 -- of what addresses reach
 pub record LongestRuns (f : ℕ → Reached) (rs : List Run) : Type 0 where
   -- every reached address lies in a run, with its output and access, and none else
-  pub covers : (x : ℕ) → f x ≡ reachIn rs x
+  pub covers : (x : ℕ) → f x ≡ reach_in rs x
   -- and in one alone
   pub once : (x : ℕ) → AllPairs (λ r s. holds r x ≡ true → holds s x ≡ true → ⊥) rs
   pub proper : All (λ r. r.first ≤ r.last) rs
@@ -43,7 +43,7 @@ pub record LongestRuns (f : ℕ → Reached) (rs : List Run) : Type 0 where
 
 -- the runs of the first n addresses are these, where no other address reaches anything
 abbrev pub RunsAreLongest : Type 0
-RunsAreLongest = (f : ℕ → Reached) (n : ℕ) → ((x : ℕ) → n ≤ x → f x ≡ Nothing) → LongestRuns f (runsFrom f 0 n)
+RunsAreLongest = (f : ℕ → Reached) (n : ℕ) → ((x : ℕ) → n ≤ x → f x ≡ Nothing) → LongestRuns f (runs_from f 0 n)
 
 -- and no other list is
 abbrev pub OneListOfRuns : Type 0

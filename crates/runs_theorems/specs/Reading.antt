@@ -3,7 +3,7 @@ use Rattle.std.specs.Prelude.{ℕ, ◌+◌, ◌-◌, ◌^◌, ◌<◌, ◌≤◌
 use Rattle.fields.specs.Ascii.{ascii}
 use Rattle.perm.specs.declared.Perm.TheVariants.{Ro, Rw, Rx}
 use Rattle.refusal.specs.All.{All}
-use Rattle.runs.specs.Page.{lineLength, page_of}
+use Rattle.runs.specs.Page.{line_length, page_of}
 use Rattle.runs.specs.declared.Run.{Run}
 use Rattle.scene_line.specs.Line.{number_of}
 use Rattle.scene_line.specs.declared.Number.TheVariants.{Value}
@@ -30,7 +30,7 @@ pub record LineTells (line : List ℕ) (r : Run) : Type 0 where
 -- line by line, and the last line
 abbrev pub PageTells : List ℕ → List Run → Type 0
 PageTells page [] = page ≡ ascii "=======================================\n"
-PageTells page (r ∷ rs) = LineTells (take lineLength page) r × PageTells (drop lineLength page) rs
+PageTells page (r ∷ rs) = LineTells (take line_length page) r × PageTells (drop line_length page) rs
 
 abbrev pub PagesAreRead : Type 0
 PagesAreRead = (rs : List Run) → All Spelled rs → PageTells (page_of rs) rs

@@ -23,7 +23,7 @@ use denote.Steps.{heard, nothing}
 use denote.Triple.Statement.{Contract}
 use denote.Triple.Spec.{triple_of}
 use denote.Triple.Clauses.{ensured, lasts}
-use Rattle.refusal.specs.Outcome.{outcomeOf, outcomeWords}
+use Rattle.refusal.specs.Outcome.{outcome_of, outcome_words}
 use Rattle.refusal.specs.declared.Verdict.{Verdict}
 use Rattle.refusal.specs.contracts.Verdict as R
 use Rattle.s2.specs.contracts.answer as answer
@@ -48,7 +48,7 @@ last γ ws = fres γ (Eight.coded.code ws)
 
 -- what the call tells
 abbrev pub Tells : Verdict → ℕ → List ℕ → Type 0
-Tells verdict r ws = (r ∷ ws) ≡ outcomeWords (outcomeOf verdict)
+Tells verdict r ws = (r ∷ ws) ≡ outcome_words (outcome_of verdict)
 
 module _ {M : Type 1} {𝓤 : Ura M} (𝓛 : Logic 𝓤) (mem : Memory → SProp 𝓤) (run : Routine → Fun 𝓤) where
   open 𝓛 use {H, A}
@@ -58,26 +58,26 @@ module _ {M : Type 1} {𝓤 : Ura M} (𝓛 : Logic 𝓤) (mem : Memory → SProp
 
   -- at the verdict's machine value u
   module _ (κ : Lft) (q : Share) (b o : ℕ) (γ : GName) (before : List ℕ) (verdict : Verdict) (u : Val) where
-    abbrev pub to-answer : Answer.Ghost
-    to-answer = (((κ, tt), (q, tt), tt, (verdict, (lent b o γ before, tt)), (u ∷ [], (vptr b o ∷ [], tt))), tt)
+    abbrev pub to_answer : Answer.Ghost
+    to_answer = (((κ, tt), (q, tt), tt, (verdict, (lent b o γ before, tt)), (u ∷ [], (vptr b o ∷ [], tt))), tt)
 
     -- the number r at the machine value w, and the last values
     abbrev pub Left : Val → ℕ → List ℕ → SProp 𝓤
     Left w r ws = sep 𝓤 (A.lft κ q) (sep 𝓤 (sem 𝓛 (last γ ws)) (sem 𝓛 (u32.own_val r (w ∷ []))))
 
     module _ where
-      pub asks-answer : ent 𝓤 (sep 𝓤 (sem 𝓛 ((R.the_row).own_val verdict (u ∷ []))) (sep 𝓤 (A.lft κ q) (sem 𝓛 (Lent κ b o γ before))))
-          (Answer.pre to-answer)
-      asks-answer =
+      pub asks_answer : ent 𝓤 (sep 𝓤 (sem 𝓛 ((R.the_row).own_val verdict (u ∷ []))) (sep 𝓤 (A.lft κ q) (sem 𝓛 (Lent κ b o γ before))))
+          (Answer.pre to_answer)
+      asks_answer =
           qed 𝓛 (‵ ((R.the_row).own_val verdict (u ∷ [])) ∷ (‵ (flft κ q) ⊛ ‵ (Lent κ b o γ before)) ∷ []) ∵ move ! (1 ∷ []) $ split ! $
           -- [the token; the values; the verdict]
           nothing ! $ move ! (2 ∷ 0 ∷ []) $ fjoin ! $ move ! (2 ∷ 0 ∷ []) $ fjoin ! $ nothing ! $ move ! (2 ∷ 0 ∷ []) $ join ! $ join ! $
           frame ! $ done !
 
-      pub answered : (w : Val) → ent 𝓤 (Answer.post to-answer w)
+      pub answered : (w : Val) → ent 𝓤 (Answer.post to_answer w)
           (H.⇛ (ex 𝓤 (λ (r : ℕ). ex 𝓤 (λ (ws : List ℕ). guard 𝓤 (Tells verdict r ws) (Left w r ws)))))
       answered w =
-          qed 𝓛 (raw (Answer.post to-answer w) ∷ []) ∵ updating ! $
+          qed 𝓛 (raw (Answer.post to_answer w) ∷ []) ∵ updating ! $
           use1 𝓛 (later (some (λ (r : ℕ). ((‵ (flft κ q) ⊛ ‵ ftrue) ⊛ ‵ (u32.own_val r (w ∷ [])))
           ⊛ raw (ensured 𝓛 answer.ended (answer.clauses 𝓛 mem run) (κ, tt) (verdict, (lent b o γ before, tt)) tt r)))) (id⊢ 𝓤 _) $
           await ! tt $ pick ! (λ r.

@@ -1,10 +1,10 @@
 // The calls of board code: numbers and slices in, document 01's number and the carried values out. A layout is lent as its numbers: the
 // sixteen fields in their order, with whether there is an image just before the image. A call returns 0 where it accepts.
 ghost use Rattle.std.specs.Prelude.{◌<◌, ◌^◌, [], ◌∷◌, ◌≡◌, get_or};
-ghost use Rattle.edge.specs.Edge.{edgesOf};
-ghost use Rattle.refusal.specs.Outcome.{outcomeOf, outcomeWords};
-ghost use Rattle.s2.specs.Answers.{validateAnswer, fillAnswer, EncodeAnswer, StepAnswer, walkAnswer, verifyAnswer, exposedAnswer};
-ghost use Rattle.s2.specs.Answers.{PageAnswer, authorizedAnswer, exactAnswer};
+ghost use Rattle.edge.specs.Edge.{edges_of};
+ghost use Rattle.refusal.specs.Outcome.{outcome_of, outcome_words};
+ghost use Rattle.s2.specs.Answers.{validate_answer, fill_answer, EncodeAnswer, StepAnswer, walk_answer, verify_answer, exposed_answer};
+ghost use Rattle.s2.specs.Answers.{PageAnswer, authorized_answer, exact_answer};
 
 use annex::Annexed;
 use edge::Edge;
@@ -17,7 +17,7 @@ use refusal::Verdict;
 // Rows 4 to 12.
 #[unsafe(no_mangle)]
 pub extern "C" fn s2_validate(layout: &[u64; Layout::NUMBERS], values: &mut [u64; 8]) -> u32
-    ensures { (result ∷ values.new) ≡ validateAnswer layout.now }
+    ensures { (result ∷ values.new) ≡ validate_answer layout.now }
 {
     answer(
         validate::validate(layout_numbers::layout_of(layout)),
@@ -36,7 +36,7 @@ pub extern "C" fn s2_fill(
     values: &mut [u64; 8],
 ) -> u32
     ensures { ((result ∷ values.new) ∷ base.new ∷ sup.new ∷ [])
-        ≡ fillAnswer (edgesOf edges.now) frames.now dom base.old sup.old }
+        ≡ fill_answer (edges_of edges.now) frames.now dom base.old sup.old }
 {
     answer(
         leafmap::leaf_map_from_edges(edges, frames, dom, base, sup),
@@ -55,7 +55,7 @@ pub extern "C" fn s2_fill_edges(
     values: &mut [u64; 8],
 ) -> u32
     ensures { ((result ∷ values.new) ∷ base.new ∷ sup.new ∷ [])
-        ≡ fillAnswer edges.now frames.now dom base.old sup.old }
+        ≡ fill_answer edges.now frames.now dom base.old sup.old }
 {
     answer(
         leafmap_edges::leaf_map_from_edges(edges, frames, dom, base, sup),
@@ -108,7 +108,7 @@ pub extern "C" fn s2_walk(
     ipa: u64,
     values: &mut [u64; 8],
 ) -> u32
-    ensures { (result ∷ values.new) ≡ walkAnswer arena.now tables.now ipa }
+    ensures { (result ∷ values.new) ≡ walk_answer arena.now tables.now ipa }
 {
     match walker::walk(arena, tables, ipa) {
         Walked::Told(reached) => told(reached.words(), values),
@@ -126,7 +126,7 @@ pub extern "C" fn s2_verify(
     values: &mut [u64; 8],
 ) -> u32
     ensures { (result ∷ values.new)
-        ≡ verifyAnswer layout.now arena.now base.now sup.now }
+        ≡ verify_answer layout.now arena.now base.now sup.now }
 {
     answer(
         verify::verify_encoding(arena, base, sup, layout_numbers::layout_of(layout)),
@@ -137,7 +137,7 @@ pub extern "C" fn s2_verify(
 // Rows 4 to 12. Which table lies in which output window.
 #[unsafe(no_mangle)]
 pub extern "C" fn s2_exposed(layout: &[u64; Layout::NUMBERS], values: &mut [u64; 8]) -> u32
-    ensures { (result ∷ values.new) ≡ exposedAnswer layout.now }
+    ensures { (result ∷ values.new) ≡ exposed_answer layout.now }
 {
     match exposed::exposed_table(layout_numbers::layout_of(layout)) {
         Exposed::Told(exposure) => told(exposure.words(), values),
@@ -172,7 +172,7 @@ pub extern "C" fn s2_authorized(
     grants: &[[u32; 4]],
     values: &mut [u64; 8],
 ) -> u32
-    ensures { (result ∷ values.new) ≡ authorizedAnswer dom map.now frames.now grants.now }
+    ensures { (result ∷ values.new) ≡ authorized_answer dom map.now frames.now grants.now }
 {
     answer(
         authority::check_authorized_with(dom, map, frames, grants),
@@ -191,7 +191,7 @@ pub extern "C" fn s2_exact(
     values: &mut [u64; 8],
 ) -> u32
     ensures { (result ∷ values.new)
-        ≡ exactAnswer dom map.now span (edgesOf edges.now) frames.now }
+        ≡ exact_answer dom map.now span (edges_of edges.now) frames.now }
 {
     let span = Span::of(span);
     answer(exact::check_exact(dom, map, span, edges, frames), values)
@@ -207,7 +207,7 @@ pub extern "C" fn s2_exact_edges(
     frames: &[[u32; 2]],
     values: &mut [u64; 8],
 ) -> u32
-    ensures { (result ∷ values.new) ≡ exactAnswer dom map.now span edges.now frames.now }
+    ensures { (result ∷ values.new) ≡ exact_answer dom map.now span edges.now frames.now }
 {
     let span = Span::of(span);
     answer(
@@ -218,7 +218,7 @@ pub extern "C" fn s2_exact_edges(
 
 // The number, and the values.
 fn answer(verdict: Verdict, values: &mut [u64; 8]) -> u32
-    ensures { (result ∷ values.new) ≡ outcomeWords (outcomeOf verdict) }
+    ensures { (result ∷ values.new) ≡ outcome_words (outcome_of verdict) }
 {
     told(verdict.words(), values)
 }

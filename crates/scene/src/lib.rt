@@ -1,7 +1,7 @@
 // What the lines of a scene set (document 01, "Proved and printed").
 ghost use Rattle.std.specs.Prelude.{◌≡◌, set};
 ghost use Rattle.layout.specs.Layout.{field_at};
-ghost use Rattle.scene.specs.Scene.{applied, scene, withField};
+ghost use Rattle.scene.specs.Scene.{applied, scene, with_field};
 
 use scene_line::Line;
 
@@ -23,7 +23,7 @@ pub fn apply(line: Line, numbers: &mut [u64], base: &mut [u8], sup: &mut [u8])
 
 // Whether there is an image stands just before the image.
 fn put_field(numbers: &mut [u64], field: usize, value: u64)
-    ensures { numbers.new ≡ withField numbers.old field value }
+    ensures { numbers.new ≡ with_field numbers.old field value }
 {
     if field == IMAGE {
         put_number(numbers, IMAGE - 1, 1);

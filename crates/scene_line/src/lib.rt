@@ -1,6 +1,6 @@
 // What a line of a scene says (document 01, "Proved and printed").
 ghost use Rattle.std.specs.Prelude.{◌≡◌};
-ghost use Rattle.scene_line.specs.Line.{digitOf, firstSpace, letterL, line_of, number_of, said, saidAfter, says};
+ghost use Rattle.scene_line.specs.Line.{digit_of, first_space, letter_l, line_of, number_of, said, said_after, says};
 
 use layout::Layout;
 
@@ -56,7 +56,7 @@ pub fn line_of(text: &[u8]) -> Line
 
 // The same from its letter and what follows the first space.
 fn said_after(letter: u8, text: &[u8]) -> Line
-    ensures { result ≡ saidAfter letter text.now }
+    ensures { result ≡ said_after letter text.now }
 {
     let end = first_space(text);
     if text.len() <= end {
@@ -101,7 +101,7 @@ fn said(letter: u8, a: u64, b: u64) -> Line
 
 // The same of the letter L.
 fn field(n: u64, value: u64) -> Line
-    ensures { result ≡ said letterL n value }
+    ensures { result ≡ said letter_l n value }
 {
     if n < 1 {
         return Line::Bad;
@@ -122,7 +122,7 @@ fn field(n: u64, value: u64) -> Line
 
 // The index of the first space, or the length.
 fn first_space(text: &[u8]) -> usize
-    ensures { result ≡ firstSpace text.now }
+    ensures { result ≡ first_space text.now }
 {
     for i in 0..text.len() {
         if text[i] == b' ' {
@@ -153,7 +153,7 @@ fn number_of(text: &[u8]) -> Number
 }
 
 fn digit(c: u8) -> Number
-    ensures { result ≡ digitOf c }
+    ensures { result ≡ digit_of c }
 {
     match c {
         b'0'..=b'9' => Number::Value((c - b'0') as u64),

@@ -9,20 +9,20 @@ use lib.Dec.{ltb}
 use lib.ListN.{length, get_or, set, take, drop, length-append, drop_of_length-le}
 use lib.Seq.{take_all, take-suc-set, take-append-le, take-length, length-take-le, drop-cons}
 use borrow.Author.Tests.{ltb-true, ltb-false, eq-eqb, ne_eqb}
-use Rattle.fields.specs.Ascii.{lineFeed}
+use Rattle.fields.specs.Ascii.{line_feed}
 use Rattle.scene.specs.Scene.{Scene, applied}
 use Rattle.scene_line.specs.Line.{line_of, says}
 use Rattle.scene_line.specs.declared.Line.TheVariants.{Field, Base, Super, Bad}
 use Rattle.scene_line.specs.declared.Line.{Line}
-use Rattle.scene_text.specs.Reading.{Reading, reading, stopped, read_on, taken, takenAll, finished, read_of}
+use Rattle.scene_text.specs.Reading.{Reading, reading, stopped, read_on, taken, taken_all, finished, read_of}
 use Rattle.scene_text.specs.Text.{heard}
 
 -- a bad line sets nothing, so that a line may be set before it is known to say something
-pub set-heard : (s : Scene) (line : Line) → read_of (says line) (applied s line) ≡ heard s line
-set-heard s (Field n value) = refl
-set-heard s (Base position code) = refl
-set-heard s (Super position code) = refl
-set-heard s Bad = refl
+pub set_heard : (s : Scene) (line : Line) → read_of (says line) (applied s line) ≡ heard s line
+set_heard s (Field n value) = refl
+set_heard s (Base position code) = refl
+set_heard s (Super position code) = refl
+set_heard s Bad = refl
 
 -- what follows the last line feed is a line, if there is something
 pub last_line : (s : Scene) (cs : List ℕ) → 0 < length cs → finished (reading s cs) ≡ heard s (line_of cs)
@@ -30,15 +30,15 @@ last_line s [] h = absurd (omega (arith, h))
 last_line s (c ∷ cs) h = refl
 
 module _ (room : ℕ) (s : Scene) (line : List ℕ) (c : ℕ) where
-  pub line-ended : c ≡ lineFeed → taken room (reading s line) c ≡ read_on (heard s (line_of line))
-  line-ended e = rw (eq-eqb c lineFeed e)
+  pub line_ended : c ≡ line_feed → taken room (reading s line) c ≡ read_on (heard s (line_of line))
+  line_ended e = rw (eq-eqb c line_feed e)
 
-  pub line-goes-on : (c ≡ lineFeed → ⊥) → taken room (reading s line) c ≡ reading s (take room (line ++ (c ∷ [])))
-  line-goes-on e = rw (ne_eqb c lineFeed e)
+  pub line_goes_on : (c ≡ line_feed → ⊥) → taken room (reading s line) c ≡ reading s (take room (line ++ (c ∷ [])))
+  line_goes_on e = rw (ne_eqb c line_feed e)
 
 -- no more than a line has is kept of it
-pub all-kept : (n : ℕ) (line : List ℕ) → take (min n (length line)) line ≡ take n line
-all-kept n line = go (ltb n (length line)) refl
+pub all_kept : (n : ℕ) (line : List ℕ) → take (min n (length line)) line ≡ take n line
+all_kept n line = go (ltb n (length line)) refl
   where
     go : (b : Bool) → ltb n (length line) ≡ b → take (min n (length line)) line ≡ take n line
     go true e =
@@ -67,22 +67,22 @@ module _ (line : List ℕ) (n c : ℕ) where
 
 module _ (room : ℕ) where
   -- after a bad line nothing is read
-  pub stays : (s : Scene) (cs : List ℕ) → takenAll room (stopped s) cs ≡ stopped s
-  unfolding takenAll
+  pub stays : (s : Scene) (cs : List ℕ) → taken_all room (stopped s) cs ≡ stopped s
+  unfolding taken_all
   stays s [] = refl
   stays s (c ∷ cs) = stays s cs
 
   module _ (r : Reading) (cs : List ℕ) (i : ℕ) where
-    byte_next : i < length cs → takenAll room r (drop i cs) ≡ takenAll room (taken room r (get_or cs i 0)) (drop (i + 1) cs)
-    unfolding takenAll
+    byte_next : i < length cs → taken_all room r (drop i cs) ≡ taken_all room (taken room r (get_or cs i 0)) (drop (i + 1) cs)
+    unfolding taken_all
     byte_next inside = rw (add-one, drop-cons cs i 0)
 
     -- what a byte leaves is read on
-    pub after-byte :
+    pub after_byte :
         (next : Reading) → i < length cs → next ≡ taken room r (get_or cs i 0)
-        → takenAll room next (drop (i + 1) cs) ≡ takenAll room r (drop i cs)
-    after-byte next inside e = ap (λ q. takenAll room q (drop (i + 1) cs)) e ∙ sym (byte_next inside)
+        → taken_all room next (drop (i + 1) cs) ≡ taken_all room r (drop i cs)
+    after_byte next inside e = ap (λ q. taken_all room q (drop (i + 1) cs)) e ∙ sym (byte_next inside)
 
-    pub byte-none : length cs ≤ i → takenAll room r (drop i cs) ≡ r
-    unfolding takenAll
-    byte-none outside = rw (drop_of_length-le cs outside)
+    pub byte_none : length cs ≤ i → taken_all room r (drop i cs) ≡ r
+    unfolding taken_all
+    byte_none outside = rw (drop_of_length-le cs outside)

@@ -1,11 +1,11 @@
 -- A text that is read piece by piece: what a reader keeps between two pieces, and that it reads the lines of the whole text.
 use Rattle.std.specs.Prelude.{ℕ, ◌≤◌, ◌<◌, Bool, ◌≡◌, eqb, take}
 use mathlib.Core.List.{List, [], ◌∷◌, ◌++◌, foldl}
-use Rattle.fields.specs.Ascii.{lineFeed}
+use Rattle.fields.specs.Ascii.{line_feed}
 use Rattle.fields.specs.Named.{pick}
 use Rattle.scene.specs.Scene.{Scene}
 use Rattle.scene_line.specs.Line.{line_of}
-use Rattle.scene_text.specs.Text.{Read, whole, badLine, heard, readFrom}
+use Rattle.scene_text.specs.Text.{Read, whole, bad_line, heard, read_from}
 use Rattle.scene_text.specs.declared.Taken.{Taken}
 use Rattle.scene_text.specs.declared.Taken.TheVariants.{Unfinished, Bad}
 
@@ -17,33 +17,33 @@ pub data Reading : Type 0 where
 -- after a line that has ended
 abbrev pub read_on : Read → Reading
 read_on (whole s) = reading s []
-read_on (badLine s) = stopped s
+read_on (bad_line s) = stopped s
 
 -- one byte more: a line feed ends the line, of which as many bytes are kept as there is room for
 abbrev pub taken : ℕ → Reading → ℕ → Reading
 taken room (reading s line) c =
-    pick (eqb c lineFeed) (read_on (heard s (line_of line))) (reading s (take room (line ++ (c ∷ []))))
+    pick (eqb c line_feed) (read_on (heard s (line_of line))) (reading s (take room (line ++ (c ∷ []))))
 taken room (stopped s) c = stopped s
 
-unfoldable pub takenAll : ℕ → Reading → List ℕ → Reading
-takenAll room r cs = foldl (taken room) r cs
+unfoldable pub taken_all : ℕ → Reading → List ℕ → Reading
+taken_all room r cs = foldl (taken room) r cs
 
 -- at the end of the text: the last line may lack its line feed
 abbrev pub finished : Reading → Read
 finished (reading s []) = whole s
 finished (reading s (c ∷ cs)) = heard s (line_of (c ∷ cs))
-finished (stopped s) = badLine s
+finished (stopped s) = bad_line s
 
 -- with room for 36 bytes of a line, what is read of the pieces is what the lines of the text say
 abbrev pub ReadsLines : Type 0
 ReadsLines =
     (room : ℕ) → 35 < room →
-    (s : Scene) (text : List ℕ) → finished (takenAll room (reading s []) text) ≡ readFrom s text
+    (s : Scene) (text : List ℕ) → finished (taken_all room (reading s []) text) ≡ read_from s text
 
 -- and pieces one after the other are read as one
 abbrev pub ReadsPieces : Type 0
 ReadsPieces =
-    (room : ℕ) (r : Reading) (piece next : List ℕ) → takenAll room r (piece ++ next) ≡ takenAll room (takenAll room r piece) next
+    (room : ℕ) (r : Reading) (piece next : List ℕ) → taken_all room r (piece ++ next) ≡ taken_all room (taken_all room r piece) next
 
 -- the answers of the code: what is kept is the front of the line's buffer
 abbrev pub reading_of : Taken → List ℕ → Scene → Reading
@@ -51,7 +51,7 @@ reading_of (Unfinished n) line s = reading s (take n line)
 reading_of Bad line s = stopped s
 
 abbrev pub read_of : Bool → Scene → Read
-read_of said s = pick said (whole s) (badLine s)
+read_of said s = pick said (whole s) (bad_line s)
 
 -- what is kept fits the buffer
 abbrev pub Fits : ℕ → Taken → Type 0

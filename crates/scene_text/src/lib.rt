@@ -2,7 +2,7 @@
 ghost use Rattle.std.specs.Prelude.{◌≤◌, min, ◌≡◌, length, take};
 ghost use Rattle.scene.specs.Scene.{scene};
 ghost use Rattle.scene_line.specs.Line.{line_of};
-ghost use Rattle.scene_text.specs.Reading.{reading, taken, takenAll, finished, reading_of, read_of, Fits};
+ghost use Rattle.scene_text.specs.Reading.{reading, taken, taken_all, finished, reading_of, read_of, Fits};
 ghost use Rattle.scene_text.specs.Text.{heard};
 
 // One byte more than the longest line that says something: a letter, two spaces and 32 digits.
@@ -25,7 +25,7 @@ pub fn take(
     sup: &mut [u8],
 ) -> Taken
     ensures { reading_of result line.new (scene numbers.new base.new sup.new)
-        ≡ takenAll (length line.old)
+        ≡ taken_all (length line.old)
         (reading (scene numbers.old base.old sup.old) (take kept line.old))
         piece.now }
 {

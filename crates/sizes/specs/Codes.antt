@@ -18,16 +18,16 @@ ps B44 = 0b100
 ps B48 = 0b101
 ps B52 = 0b110
 
-abbrev pub sizeNamed : ℕ → SizeNamed
-sizeNamed = named ps (B32 ∷ B36 ∷ B40 ∷ B42 ∷ B44 ∷ B48 ∷ B52 ∷ []) Size NoSize
+abbrev pub size_named : ℕ → SizeNamed
+size_named = named ps (B32 ∷ B36 ∷ B40 ∷ B42 ∷ B44 ∷ B48 ∷ B52 ∷ []) Size NoSize
 
 -- VS, bit 19
 abbrev pub vs : VmidBits → ℕ
 vs B8 = 0
 vs B16 = 1
 
-abbrev pub vmidBitsNamed : ℕ → VmidBits
-vmidBitsNamed n = pick (eqb n 0) B8 B16
+abbrev pub vmid_bits_named : ℕ → VmidBits
+vmid_bits_named n = pick (eqb n 0) B8 B16
 
 abbrev pub vmids : VmidBits → ℕ
 vmids B8 = 2 ^ 8

@@ -1,6 +1,6 @@
 // The output size and the width of a VMID, each with its code in VTCR_EL2 (hv-s2's arm64.rs).
 ghost use Rattle.std.specs.Prelude.{◌≡◌};
-ghost use Rattle.sizes.specs.Codes.{ps, sizeNamed, vs, vmidBitsNamed, vmids};
+ghost use Rattle.sizes.specs.Codes.{ps, size_named, vs, vmid_bits_named, vmids};
 
 // The output address size in bits.
 #[derive(Drop)]
@@ -43,7 +43,7 @@ impl PaSize {
     }
 
     pub fn from_ps(v: u64) -> SizeNamed
-        ensures { result ≡ sizeNamed v }
+        ensures { result ≡ size_named v }
     {
         match v {
             0b000 => SizeNamed::Size(PaSize::B32),
@@ -70,7 +70,7 @@ impl VmidBits {
 
     // VS has one bit.
     pub fn from_vs(v: u64) -> VmidBits
-        ensures { result ≡ vmidBitsNamed v }
+        ensures { result ≡ vmid_bits_named v }
     {
         if v == 0 { VmidBits::B8 } else { VmidBits::B16 }
     }

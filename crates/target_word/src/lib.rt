@@ -1,6 +1,6 @@
 // The word that encoding into zeros leaves at a place of the arena: what an update stores.
 ghost use Rattle.std.specs.Prelude.{ℕ, ◌+◌, ◌*◌, ◌<◌, List, map, ◌≡◌};
-ghost use Rattle.arena.specs.Encoded.{word_at, stored, deviceRun, areaRun, target};
+ghost use Rattle.arena.specs.Encoded.{word_at, stored, device_run, area_run, target};
 ghost use Rattle.layout.specs.Size.{entries};
 
 use areas::Area;
@@ -32,7 +32,7 @@ fn l1_word(l: Layout, j: usize) -> u64
 // Where areas share a slot, which row 11 refuses, the last one's word stands.
 fn last_named(areas: [Area; Layout::WINDOWS], j: usize) -> u64
     requires { j < entries }
-    ensures { result ≡ stored (map areaRun areas) j 0 }
+    ensures { result ≡ stored (map area_run areas) j 0 }
 {
     let mut word = 0;
     for i in 0..Layout::WINDOWS {
@@ -92,7 +92,7 @@ fn super_word(sup: &[u8], l: Layout, j: usize) -> u64
 // Of a device's table, which has k tables before it: the block at this slot.
 fn device_word(w: Window, j: usize) -> u64
     requires { j < entries }
-    ensures { (k : ℕ) → result ≡ word_at (deviceRun (1 + k) w) (k * entries + j) }
+    ensures { (k : ℕ) → result ≡ word_at (device_run (1 + k) w) (k * entries + j) }
 {
     let from = Layout::l2_index(w.ipa) as usize;
     if j < from {

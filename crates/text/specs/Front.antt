@@ -4,8 +4,8 @@ use Rattle.std.proofs.Math.Seq.{paste}
 use Rattle.fields.specs.Named.{pick}
 
 -- in the front; the rest stays
-abbrev pub inFront : List ℕ → List ℕ → List ℕ
-inFront text old = text ++ drop (length text) old
+abbrev pub in_front : List ℕ → List ℕ → List ℕ
+in_front text old = text ++ drop (length text) old
 
 -- from an index on, where there is room; else the buffer stays
 unfoldable pub put_at : List ℕ → List ℕ → ℕ → List ℕ

@@ -3,34 +3,34 @@ use Prim.Native.Nat.{ℕ, ◌≤◌, ◌<◌}
 use mathlib.Core.List.{List, [], ◌++◌, flat_map}
 use mathlib.Core.Path.{◌≡◌}
 use borrow.Author.Tests.{le-leb, lt-leb, leb-false}
-use Rattle.layout.specs.Size.{boardLimit}
+use Rattle.layout.specs.Size.{board_limit}
 use Rattle.layout.specs.declared.Layout.{Layout}
 use Rattle.refusal.proofs.None.{none, both, test, accept}
 use Rattle.refusal.specs.Table.{row, accepted, refused, first}
-use Rattle.rows.specs.Rows.{arenaGuardRows}
-use Rattle.update.specs.Step.{stepCount, row26, stepRows}
+use Rattle.rows.specs.Rows.{arena_guard_rows}
+use Rattle.update.specs.Step.{step_count, row26, step_rows}
 
 -- row 26 is the last
 
-pub past-last : (n : ℕ) → stepCount ≤ n → first (row26 n ++ []) ≡ refused (row 26 [])
+pub past_last : (n : ℕ) → step_count ≤ n → first (row26 n ++ []) ≡ refused (row 26 [])
 unfolding row26 first
-past-last n h = rw (le-leb _ _ h)
+past_last n h = rw (le-leb _ _ h)
 
-pub not-past : (n : ℕ) → n < stepCount → first (row26 n ++ []) ≡ accepted
+pub not_past : (n : ℕ) → n < step_count → first (row26 n ++ []) ≡ accepted
 unfolding row26 first
-not-past n h = rw (lt-leb _ _ h)
+not_past n h = rw (lt-leb _ _ h)
 
 module _ (l : Layout) (base sup : List ℕ) (n : ℕ) (words : List ℕ) where
   pub record Stores : Type 0 where
-    pub guarded : first (arenaGuardRows boardLimit words base sup l) ≡ accepted
-    pub number : n < stepCount
+    pub guarded : first (arena_guard_rows board_limit words base sup l) ≡ accepted
+    pub number : n < step_count
 
-  pub stores : first (stepRows l base sup n words) ≡ accepted → Stores
-  unfolding stepRows row26 flat_map
+  pub stores : first (step_rows l base sup n words) ≡ accepted → Stores
+  unfolding step_rows row26 flat_map
   stores e =
-      let r = both (arenaGuardRows boardLimit words base sup l) _ (none _ e) in
+      let r = both (arena_guard_rows board_limit words base sup l) _ (none _ e) in
       record { guarded = accept _ r.0; number = leb-false _ _ (test _ _ _ (both (row26 n) [] r.1).0) }
 
-  pub stored : Stores → first (stepRows l base sup n words) ≡ accepted
-  unfolding stepRows flat_map
-  stored s = accept _ (rw (none _ s.guarded) (none _ (not-past n s.number)))
+  pub stored : Stores → first (step_rows l base sup n words) ≡ accepted
+  unfolding step_rows flat_map
+  stored s = accept _ (rw (none _ s.guarded) (none _ (not_past n s.number)))

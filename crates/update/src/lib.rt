@@ -1,8 +1,8 @@
 // The update step (document 01, "Update"): each call makes one store, so that an update may be cut between any two.
 ghost use Rattle.std.specs.Prelude.{◌<◌, ◌≡◌};
-ghost use Rattle.layout.specs.Size.{arenaLength};
-ghost use Rattle.refusal.specs.Outcome.{outcomeOf};
-ghost use Rattle.update.specs.Step.{stepCount, place_of, storedBy, Stepping};
+ghost use Rattle.layout.specs.Size.{arena_length};
+ghost use Rattle.refusal.specs.Outcome.{outcome_of};
+ghost use Rattle.update.specs.Step.{step_count, place_of, stored_by, Stepping};
 
 use layout::Layout;
 use refusal::{Refusal, Verdict};
@@ -12,7 +12,7 @@ const STEPS: usize = 2 * Layout::ARENA_LEN;
 
 // Rows 1 to 14, then 26, come before the store, which is the only one.
 pub fn step(arena: &mut [u64], base: &[u8], sup: &[u8], l: Layout, n: u64) -> Verdict
-    ensures { Stepping l base.now sup.now n arena.old (outcomeOf result) arena.new }
+    ensures { Stepping l base.now sup.now n arena.old (outcome_of result) arena.new }
 {
     let verdict = guard::guard(arena, base, sup, l);
     let Verdict::Accepted = verdict else {
@@ -30,9 +30,9 @@ pub fn step(arena: &mut [u64], base: &[u8], sup: &[u8], l: Layout, n: u64) -> Ve
 
 // Upwards while words are zeroed, then downwards, so that a table is stored before the word that names it.
 fn place_of(n: usize) -> usize
-    requires { n < stepCount }
+    requires { n < step_count }
     ensures value { result ≡ place_of n }
-    ensures upper_bound { result < arenaLength }
+    ensures upper_bound { result < arena_length }
 {
     if n < Layout::ARENA_LEN {
         return n;
@@ -41,8 +41,8 @@ fn place_of(n: usize) -> usize
 }
 
 fn stored_by(base: &[u8], sup: &[u8], l: Layout, n: usize) -> u64
-    requires { n < stepCount }
-    ensures { result ≡ storedBy l base.now sup.now n }
+    requires { n < step_count }
+    ensures { result ≡ stored_by l base.now sup.now n }
 {
     if Layout::ARENA_LEN <= n {
         return target_word::target_word(base, sup, l, STEPS - 1 - n);

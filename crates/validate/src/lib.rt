@@ -1,22 +1,22 @@
 // Rows 4 to 12 of document 01's table, of a layout (hv-s2's arm64.rs, `validate`).
 ghost use Rattle.std.specs.Prelude.{◌≡◌};
-ghost use Rattle.refusal.specs.Outcome.{outcomeOf};
+ghost use Rattle.refusal.specs.Outcome.{outcome_of};
 ghost use Rattle.refusal.specs.Table.{first};
-ghost use Rattle.rows.specs.Rows.{capped, refusalsAt, refusals};
+ghost use Rattle.rows.specs.Rows.{capped, refusals_at, refusals};
 
 use layout::{Layout, SuperWindow};
 use refusal::{Refusal, Verdict};
 
 // What encoding assumes of a layout. A layout that breaks it would be mapped wrongly with no fault.
 pub fn validate(l: Layout) -> Verdict
-    ensures { outcomeOf result ≡ first (refusals l) }
+    ensures { outcome_of result ≡ first (refusals l) }
 {
     validate_at(Layout::BOARD_LIMIT, l)
 }
 
 // The same where tables and outputs lie below a limit of the caller's.
 pub fn validate_at(limit: u64, l: Layout) -> Verdict
-    ensures { outcomeOf result ≡ first (refusalsAt limit l) }
+    ensures { outcome_of result ≡ first (refusals_at limit l) }
 {
     let whole = alignment::all_whole(l.devices());
     let Verdict::Accepted = whole else {

@@ -1,15 +1,15 @@
 // Verification (hv-s2's arm64.rs, `verify_encoding`): the words of an arena are read back and compared with what layout and maps want.
 ghost use Rattle.std.specs.Prelude.{◌≡◌};
-ghost use Rattle.refusal.specs.Outcome.{outcomeOf};
+ghost use Rattle.refusal.specs.Outcome.{outcome_of};
 ghost use Rattle.refusal.specs.Table.{first};
-ghost use Rattle.verify_rows.specs.Verifying.{encodingRows, verifyRows};
+ghost use Rattle.verify_rows.specs.Verifying.{encoding_rows, verify_rows};
 
 use layout::Layout;
 use refusal::Verdict;
 
 // Rows 1 to 12, then what is wrong in the words. It accepts words that its decoders read as nothing: its yes does not bound a walk.
 pub fn verify_encoding(arena: &[u64], base: &[u8], sup: &[u8], l: Layout) -> Verdict
-    ensures { outcomeOf result ≡ first (verifyRows arena.now base.now sup.now l) }
+    ensures { outcome_of result ≡ first (verify_rows arena.now base.now sup.now l) }
 {
     let long = lent_rows::arena_len(arena);
     let Verdict::Accepted = long else {
@@ -27,7 +27,7 @@ pub fn verify_encoding(arena: &[u64], base: &[u8], sup: &[u8], l: Layout) -> Ver
 }
 
 fn verify_words(arena: &[u64], base: &[u8], sup: &[u8], l: Layout) -> Verdict
-    ensures { outcomeOf result ≡ first (encodingRows arena.now base.now sup.now l) }
+    ensures { outcome_of result ≡ first (encoding_rows arena.now base.now sup.now l) }
 {
     let windows = verify_tables::verify_l1(arena, l);
     let Verdict::Accepted = windows else {

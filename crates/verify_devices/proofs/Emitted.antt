@@ -6,27 +6,27 @@ use mathlib.Core.Path.{◌≡◌, refl, ap, ◌∙◌}
 use native.Mathlib.Omega.{arith}
 use lib.Dec.{ltb}
 use borrow.Author.Tests.{ltb-true, ltb-false, lt-ltb, le-ltb}
-use Rattle.arena.specs.Word.{deviceTo}
-use Rattle.decode.proofs.Emitted.{emitted-decodes}
-use Rattle.decode.specs.Decoded.{decodedDevice}
+use Rattle.arena.specs.Word.{device_to}
+use Rattle.decode.proofs.Emitted.{emitted_decodes}
+use Rattle.decode.specs.Decoded.{decoded_device}
 use Rattle.decode.specs.declared.DecodedBlock.TheVariants.{Device, Nothing}
-use Rattle.desc.specs.Descriptor.{blockAddress}
+use Rattle.desc.specs.Descriptor.{block_address}
 use Rattle.fields.specs.Named.{pick}
 use Rattle.layout.specs.declared.Window.{Window}
-use Rattle.verify_rows.proofs.Read.{held-block, no-block-row}
-use Rattle.verify_rows.specs.Verifying.{slotAddress, windowHolds, wantedBlock}
+use Rattle.verify_rows.proofs.Read.{held_block, no_block_row}
+use Rattle.verify_rows.specs.Verifying.{slot_address, window_holds, wanted_block}
 use Rattle.verify_rows.specs.Word.{block_row}
 
-device-read :
+device_read :
     (inside : Bool) (x : ℕ) →
-    decodedDevice (pick inside (deviceTo x) 0) ≡ pick inside (Device (record { pa = blockAddress x; xn = true })) Nothing
-device-read true x = emitted-decodes.device (blockAddress x) (held-block x)
-device-read false x = refl
+    decoded_device (pick inside (device_to x) 0) ≡ pick inside (Device (record { pa = block_address x; xn = true })) Nothing
+device_read true x = emitted_decodes.device (block_address x) (held_block x)
+device_read false x = refl
 
-pub device-none :
+pub device_none :
     (t d j : ℕ) (w : Window) →
-    d ≡ pick (windowHolds w (slotAddress w j)) (deviceTo (slotAddress w j)) 0 → block_row t j d (wantedBlock w j) ≡ []
-device-none t d j w q = no-block-row t j d _ (ap decodedDevice q ∙ device-read (windowHolds w (slotAddress w j)) (slotAddress w j))
+    d ≡ pick (window_holds w (slot_address w j)) (device_to (slot_address w j)) 0 → block_row t j d (wanted_block w j) ≡ []
+device_none t d j w q = no_block_row t j d _ (ap decoded_device q ∙ device_read (window_holds w (slot_address w j)) (slot_address w j))
 
 -- what lies within a length of a base is less than that far from it
 pub distance : (a base len : ℕ) → base ≤ a → ltb (a - base) len ≡ ltb a (base + len)

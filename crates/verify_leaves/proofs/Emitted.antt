@@ -3,17 +3,17 @@ use Prim.Native.Nat.{ℕ}
 use mathlib.Core.Bool.{Bool, false}
 use mathlib.Core.List.{[]}
 use mathlib.Core.Path.{◌≡◌, ap, ◌∙◌}
-use Rattle.arena.specs.Word.{pageTo, blockTo, leafFor}
-use Rattle.desc.specs.Descriptor.{pageAddress, blockAddress}
-use Rattle.verify_rows.proofs.Read.{page-read, block_read, no-leaf-row}
-use Rattle.verify_rows.specs.Word.{readPage, readBlock, wantedLeaf, leafRow}
+use Rattle.arena.specs.Word.{page_to, block_to, leaf_for}
+use Rattle.desc.specs.Descriptor.{page_address, block_address}
+use Rattle.verify_rows.proofs.Read.{page_read, block_read, no_leaf_row}
+use Rattle.verify_rows.specs.Word.{read_page, read_block, wanted_leaf, leaf_row}
 
-pub page-none :
+pub page_none :
     (t j d m e x : ℕ) →
-    d ≡ leafFor e (pageTo x) → leafRow t j d m (readPage d) (wantedLeaf e (pageAddress x) false) ≡ []
-page-none t j d m e x q = no-leaf-row t j d m _ _ (ap readPage q ∙ page-read e x)
+    d ≡ leaf_for e (page_to x) → leaf_row t j d m (read_page d) (wanted_leaf e (page_address x) false) ≡ []
+page_none t j d m e x q = no_leaf_row t j d m _ _ (ap read_page q ∙ page_read e x)
 
 pub block_none :
     (t j d m e x : ℕ) (exempt : Bool) →
-    d ≡ leafFor e (blockTo x exempt) → leafRow t j d m (readBlock d) (wantedLeaf e (blockAddress x) exempt) ≡ []
-block_none t j d m e x exempt q = no-leaf-row t j d m _ _ (ap readBlock q ∙ block_read e x exempt)
+    d ≡ leaf_for e (block_to x exempt) → leaf_row t j d m (read_block d) (wanted_leaf e (block_address x) exempt) ≡ []
+block_none t j d m e x exempt q = no_leaf_row t j d m _ _ (ap read_block q ∙ block_read e x exempt)

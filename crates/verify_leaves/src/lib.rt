@@ -1,17 +1,17 @@
 // Verification of tables 4 and 5 (hv-s2's arm64.rs, `verify_encoding`): each leaf is the one that the maps want.
 ghost use Rattle.std.specs.Prelude.{ℕ, ◌+◌, ◌*◌, ◌≤◌, ◌<◌, [], ◌≡◌};
 ghost use Rattle.layout.specs.Size.{entries, block};
-ghost use Rattle.layout.specs.Window.{l2Slot};
-ghost use Rattle.refusal.specs.Outcome.{outcomeOf};
+ghost use Rattle.layout.specs.Window.{l2_slot};
+ghost use Rattle.refusal.specs.Outcome.{outcome_of};
 ghost use Rattle.refusal.specs.Table.{first, each};
-ghost use Rattle.verify_rows.specs.Verifying.{indices, baseRow, superRow};
+ghost use Rattle.verify_rows.specs.Verifying.{indices, base_row, super_row};
 
 use layout::Layout;
 use refusal::Verdict;
 
 // Table 4.
 pub fn verify_base(arena: &[u64], base: &[u8], pa: u64) -> Verdict
-    ensures { outcomeOf result ≡ first (each (baseRow arena.now base.now pa) indices) }
+    ensures { outcome_of result ≡ first (each (base_row arena.now base.now pa) indices) }
 {
     for m in past_pages(arena, base, pa)..Layout::ENTRIES {
         let verdict = base_frame(arena, base, pa, m);
@@ -24,7 +24,7 @@ pub fn verify_base(arena: &[u64], base: &[u8], pa: u64) -> Verdict
 
 // How many words, from the first on, are the emitted ones. A loop of its own, since it decodes nothing.
 fn past_pages(arena: &[u64], base: &[u8], pa: u64) -> usize
-    ensures { (result ≤ entries) × ((k : ℕ) → k < result → baseRow arena.now base.now pa k ≡ []) }
+    ensures { (result ≤ entries) × ((k : ℕ) → k < result → base_row arena.now base.now pa k ≡ []) }
 {
     let from = Layout::first_word(4);
     // A short arena is read word by word.
@@ -43,7 +43,7 @@ fn past_pages(arena: &[u64], base: &[u8], pa: u64) -> usize
 
 fn base_frame(arena: &[u64], base: &[u8], pa: u64, m: usize) -> Verdict
     requires { m < entries }
-    ensures { outcomeOf result ≡ first (baseRow arena.now base.now pa m) }
+    ensures { outcome_of result ≡ first (base_row arena.now base.now pa m) }
 {
     let index = m as u64;
     let d = verify_read::table_word(arena, 4, m as u32);
@@ -54,7 +54,7 @@ fn base_frame(arena: &[u64], base: &[u8], pa: u64, m: usize) -> Verdict
 
 // Table 5. Supers at or past sup_frames are looked for like the others: row 14 is not tested here.
 pub fn verify_super(arena: &[u64], sup: &[u8], ipa: u64, pa: u64, exempt: bool) -> Verdict
-    ensures { outcomeOf result ≡ first (each (superRow arena.now sup.now ipa pa exempt) indices) }
+    ensures { outcome_of result ≡ first (each (super_row arena.now sup.now ipa pa exempt) indices) }
 {
     for m in past_blocks(arena, sup, ipa, pa, exempt)..Layout::ENTRIES {
         let verdict = super_frame(arena, sup, ipa, pa, exempt, m);
@@ -67,7 +67,7 @@ pub fn verify_super(arena: &[u64], sup: &[u8], ipa: u64, pa: u64, exempt: bool) 
 
 // How many supers, from the first on, have the emitted words: the same as `past_pages`.
 fn past_blocks(arena: &[u64], sup: &[u8], ipa: u64, pa: u64, exempt: bool) -> usize
-    ensures { (result ≤ entries) × ((k : ℕ) → k < result → superRow arena.now sup.now ipa pa exempt k ≡ []) }
+    ensures { (result ≤ entries) × ((k : ℕ) → k < result → super_row arena.now sup.now ipa pa exempt k ≡ []) }
 {
     let from = Layout::first_word(5);
     if arena.len() < from + Layout::ENTRIES {
@@ -86,7 +86,7 @@ fn past_blocks(arena: &[u64], sup: &[u8], ipa: u64, pa: u64, exempt: bool) -> us
 
 fn super_frame(arena: &[u64], sup: &[u8], ipa: u64, pa: u64, exempt: bool, m: usize) -> Verdict
     requires { m < entries }
-    ensures { outcomeOf result ≡ first (superRow arena.now sup.now ipa pa exempt m) }
+    ensures { outcome_of result ≡ first (super_row arena.now sup.now ipa pa exempt m) }
 {
     let index = super_index(ipa, m);
     let d = verify_read::table_word(arena, 5, index as u32);
@@ -98,7 +98,7 @@ fn super_frame(arena: &[u64], sup: &[u8], ipa: u64, pa: u64, exempt: bool, m: us
 // A super stands at its own slot, not at its frame number.
 fn super_index(ipa: u64, m: usize) -> u64
     requires { m < entries }
-    ensures { result ≡ l2Slot (ipa + m * block) }
+    ensures { result ≡ l2_slot (ipa + m * block) }
 {
     (ipa / Layout::BLOCK_SIZE + m as u64) % Layout::INDICES
 }

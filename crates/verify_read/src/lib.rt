@@ -1,10 +1,10 @@
 // What verification reads of a word, and the leaf that an entry wants there (hv-s2's arm64.rs).
 ghost use Rattle.std.specs.Prelude.{◌≡◌, get_or};
-ghost use Rattle.decode.specs.Emitted.{leafWith};
+ghost use Rattle.decode.specs.Emitted.{leaf_with};
 ghost use Rattle.decode.specs.declared.DecodedLeaf.TheVariants.{Leaf};
-ghost use Rattle.desc.specs.Words.{leafAccessXn};
+ghost use Rattle.desc.specs.Words.{leaf_access_xn};
 ghost use Rattle.verify_rows.specs.Verifying.{word};
-ghost use Rattle.verify_rows.specs.Word.{readPage, readBlock, sameLeaf, wantedLeaf};
+ghost use Rattle.verify_rows.specs.Word.{read_page, read_block, same_leaf, wanted_leaf};
 
 use decode::{Decoded, DecodedLeaf};
 use layout::Layout;
@@ -29,20 +29,20 @@ pub fn table_word(arena: &[u64], table: u32, j: u32) -> u64
 
 // What verification reads of a leaf: a page's, and a block's.
 pub fn read_page(d: u64) -> DecodedLeaf
-    ensures { result ≡ readPage d }
+    ensures { result ≡ read_page d }
 {
     decode::decode_page(d)
 }
 
 pub fn read_block(d: u64) -> DecodedLeaf
-    ensures { result ≡ readBlock d }
+    ensures { result ≡ read_block d }
 {
     decode::decode_block(d)
 }
 
 // The leaf that an entry of a map wants at an address.
 pub fn wanted_leaf(entry: u8, pa: u64, exempt: bool) -> DecodedLeaf
-    ensures { result ≡ wantedLeaf entry pa exempt }
+    ensures { result ≡ wanted_leaf entry pa exempt }
 {
     match entry {
         1 => leaf_with(pa, Perm::Ro, exempt),
@@ -53,7 +53,7 @@ pub fn wanted_leaf(entry: u8, pa: u64, exempt: bool) -> DecodedLeaf
 }
 
 fn leaf_with(pa: u64, perm: Perm, exempt: bool) -> DecodedLeaf
-    ensures { result ≡ leafWith pa (leafAccessXn perm exempt) }
+    ensures { result ≡ leaf_with pa (leaf_access_xn perm exempt) }
 {
     let a = desc::leaf_access_xn(perm, exempt);
     let access = a.access;
@@ -66,7 +66,7 @@ fn leaf_with(pa: u64, perm: Perm, exempt: bool) -> DecodedLeaf
 
 // Whether two leaves agree in what verification compares.
 pub fn same_leaf(found: DecodedLeaf, want: DecodedLeaf) -> bool
-    ensures { result ≡ sameLeaf found want }
+    ensures { result ≡ same_leaf found want }
 {
     match found {
         DecodedLeaf::Leaf(a) => match want {
@@ -81,7 +81,7 @@ pub fn same_leaf(found: DecodedLeaf, want: DecodedLeaf) -> bool
 }
 
 fn same_decoded(a: Decoded, b: Decoded) -> bool
-    ensures { result ≡ sameLeaf (Leaf a) (Leaf b) }
+    ensures { result ≡ same_leaf (Leaf a) (Leaf b) }
 {
     let found = a.perm;
     let want = b.perm;

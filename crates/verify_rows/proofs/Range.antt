@@ -25,8 +25,8 @@ module _ (f : ℕ → List Row) (n i : ℕ) where
   unfolding first flat_map range
   rest_end h = let z : n - i ≡ 0 = omega (arith, h) in rw z
 
-pub rest-walk : (f : ℕ → List Row) (n : ℕ) → Walk n f (λ i. each f (rest n i))
-rest-walk f n = record { step = rest_at f n; end = rest_end f n }
+pub rest_walk : (f : ℕ → List Row) (n : ℕ) → Walk n f (λ i. each f (rest n i))
+rest_walk f n = record { step = rest_at f n; end = rest_end f n }
 
 -- numbers with no row are passed over
 ahead :
@@ -65,17 +65,17 @@ nowhere f n none = none_from f 0 n (λ j lo hi. none j (omega (arith, hi)))
 
 -- and the other way round
 
-from-none :
+from_none :
     (f : ℕ → List Row) (k n : ℕ) → each f (range k n) ≡ [] → (j : ℕ) → k ≤ j → j < k + n → f j ≡ []
 unfolding flat_map range
-from-none f k zero e j lo hi = absurd (omega (arith, lo, hi))
-from-none f k (suc n) e j lo hi =
+from_none f k zero e j lo hi = absurd (omega (arith, lo, hi))
+from_none f k (suc n) e j lo hi =
     let parts = both (f k) (each f (range (suc k) n)) e in
-    go (eqb j k) refl parts.0 (λ past. from-none f (suc k) n parts.1 j past (omega (arith, hi)))
+    go (eqb j k) refl parts.0 (λ past. from_none f (suc k) n parts.1 j past (omega (arith, hi)))
   where
     go : (b : Bool) → eqb j k ≡ b → f k ≡ [] → (suc k ≤ j → f j ≡ []) → f j ≡ []
     go true q here later = rw (eqb-true j k q) here
     go false q here later = let ne = eqb-false j k q in later (omega (arith, lo, ne))
 
 pub everywhere : (f : ℕ → List Row) (n : ℕ) → each f (range 0 n) ≡ [] → (j : ℕ) → j < n → f j ≡ []
-everywhere f n e j h = from-none f 0 n e j (omega arith) (omega (arith, h))
+everywhere f n e j h = from_none f 0 n e j (omega arith) (omega (arith, h))

@@ -6,32 +6,32 @@ use mathlib.Core.Path.{◌≡◌, refl, ap}
 use native.Mathlib.Omega.{arith}
 use lib.Dec.{eqb}
 use borrow.Author.Tests.{eq-eqb}
-use Rattle.arena.specs.Word.{pageTo, blockTo, leafFor}
-use Rattle.decode.proofs.Emitted.{emitted-decodes}
-use Rattle.decode.specs.Decoded.{decodedTable, decodedDevice}
-use Rattle.decode.specs.Emitted.{Output, leafWith}
+use Rattle.arena.specs.Word.{page_to, block_to, leaf_for}
+use Rattle.decode.proofs.Emitted.{emitted_decodes}
+use Rattle.decode.specs.Decoded.{decoded_table, decoded_device}
+use Rattle.decode.specs.Emitted.{Output, leaf_with}
 use Rattle.decode.specs.declared.DecodedBlock.TheVariants.{Device, Nothing as NoBlock}
 use Rattle.decode.specs.declared.DecodedBlock.{DecodedBlock}
 use Rattle.decode.specs.declared.DecodedLeaf.TheVariants.{Leaf, Nothing as NoLeaf}
 use Rattle.decode.specs.declared.DecodedLeaf.{DecodedLeaf}
 use Rattle.decode.specs.declared.DecodedTable.TheVariants.{At}
-use Rattle.desc.specs.Descriptor.{pageAddress, blockAddress}
-use Rattle.desc.specs.WordFields.{readExecute}
-use Rattle.desc.specs.Words.{leafAccessXn}
+use Rattle.desc.specs.Descriptor.{page_address, block_address}
+use Rattle.desc.specs.WordFields.{read_execute}
+use Rattle.desc.specs.Words.{leaf_access_xn}
 use Rattle.fields.specs.Named.{pick, named}
 use Rattle.fields.specs.Numbers.{bit}
-use Rattle.perm.specs.Perm.{permCode}
+use Rattle.perm.specs.Perm.{perm_code}
 use Rattle.perm.specs.declared.Perm.TheVariants.{Ro, Rw, Rx}
 use Rattle.perm.specs.declared.Perm.{Perm}
 use Rattle.refusal.specs.Table.{Row, given}
-use Rattle.verify_rows.specs.Word.{readPage, readBlock, sameLeaf, sameBlock, row18, row19, wantedLeaf, leafRow, block_row}
+use Rattle.verify_rows.specs.Word.{read_page, read_block, same_leaf, same_block, row18, row19, wanted_leaf, leaf_row, block_row}
 
 -- an address as a word holds it is an output
-pub held-page : (x : ℕ) → Output 12 (pageAddress x)
-held-page x = record { below = omega arith; aligned = omega arith }
+pub held_page : (x : ℕ) → Output 12 (page_address x)
+held_page x = record { below = omega arith; aligned = omega arith }
 
-pub held-block : (x : ℕ) → Output 21 (blockAddress x)
-held-block x = record { below = omega arith; aligned = omega arith }
+pub held_block : (x : ℕ) → Output 21 (block_address x)
+held_block x = record { below = omega arith; aligned = omega arith }
 
 -- the word of an entry is read as the leaf that the entry wants
 
@@ -39,7 +39,7 @@ read :
     (decode : ℕ → DecodedLeaf) (word : Perm → ℕ) (leaf : Perm → DecodedLeaf) →
     ((p : Perm) → decode (word p) ≡ leaf p) →
     decode 0 ≡ NoLeaf →
-    (entry : ℕ) → decode (leafFor entry word) ≡ named permCode (Ro ∷ Rw ∷ Rx ∷ []) leaf NoLeaf entry
+    (entry : ℕ) → decode (leaf_for entry word) ≡ named perm_code (Ro ∷ Rw ∷ Rx ∷ []) leaf NoLeaf entry
 read decode word leaf some none entry = go (eqb entry 1) (eqb entry 2) (eqb entry 3)
   where
     go :
@@ -51,44 +51,44 @@ read decode word leaf some none entry = go (eqb entry 1) (eqb entry 2) (eqb entr
     go false false true = some Rx
     go false false false = none
 
-pub page-read : (entry x : ℕ) → readPage (leafFor entry (pageTo x)) ≡ wantedLeaf entry (pageAddress x) false
-page-read entry x =
-    read readPage (pageTo x) (λ p. leafWith (pageAddress x) (leafAccessXn p false))
-    (λ p. emitted-decodes.page (pageAddress x) p (held-page x)) refl entry
+pub page_read : (entry x : ℕ) → read_page (leaf_for entry (page_to x)) ≡ wanted_leaf entry (page_address x) false
+page_read entry x =
+    read read_page (page_to x) (λ p. leaf_with (page_address x) (leaf_access_xn p false))
+    (λ p. emitted_decodes.page (page_address x) p (held_page x)) refl entry
 
 pub block_read :
     (entry x : ℕ) (exempt : Bool) →
-    readBlock (leafFor entry (blockTo x exempt)) ≡ wantedLeaf entry (blockAddress x) exempt
+    read_block (leaf_for entry (block_to x exempt)) ≡ wanted_leaf entry (block_address x) exempt
 block_read entry x exempt =
-    read readBlock (blockTo x exempt) (λ p. leafWith (blockAddress x) (leafAccessXn p exempt))
-    (λ p. emitted-decodes.block (blockAddress x) p exempt (held-block x)) refl entry
+    read read_block (block_to x exempt) (λ p. leaf_with (block_address x) (leaf_access_xn p exempt))
+    (λ p. emitted_decodes.block (block_address x) p exempt (held_block x)) refl entry
 
 -- where what is found is what is wanted, no row applies
 
-leaf-itself : (x : DecodedLeaf) → sameLeaf x x ≡ true
-leaf-itself (Leaf a) =
-    simp (eq-eqb a.pa _ refl, eq-eqb (permCode a.perm) _ refl, eq-eqb (bit a.xn) _ refl)
-leaf-itself NoLeaf = refl
+leaf_itself : (x : DecodedLeaf) → same_leaf x x ≡ true
+leaf_itself (Leaf a) =
+    simp (eq-eqb a.pa _ refl, eq-eqb (perm_code a.perm) _ refl, eq-eqb (bit a.xn) _ refl)
+leaf_itself NoLeaf = refl
 
-block-itself : (x : DecodedBlock) → sameBlock x x ≡ true
-block-itself (Device a) = simp (eq-eqb a.pa _ refl, eq-eqb (bit a.xn) _ refl)
-block-itself NoBlock = refl
+block_itself : (x : DecodedBlock) → same_block x x ≡ true
+block_itself (Device a) = simp (eq-eqb a.pa _ refl, eq-eqb (bit a.xn) _ refl)
+block_itself NoBlock = refl
 
-pub no-leaf-row : (t j d m : ℕ) (found want : DecodedLeaf) → found ≡ want → leafRow t j d m found want ≡ []
-unfolding leafRow
-no-leaf-row t j d m found want e = rw (e, leaf-itself want)
+pub no_leaf_row : (t j d m : ℕ) (found want : DecodedLeaf) → found ≡ want → leaf_row t j d m found want ≡ []
+unfolding leaf_row
+no_leaf_row t j d m found want e = rw (e, leaf_itself want)
 
-pub no-block-row : (t j d : ℕ) (want : DecodedBlock) → decodedDevice d ≡ want → block_row t j d want ≡ []
+pub no_block_row : (t j d : ℕ) (want : DecodedBlock) → decoded_device d ≡ want → block_row t j d want ≡ []
 unfolding block_row
-no-block-row t j d want e = rw (e, block-itself want)
+no_block_row t j d want e = rw (e, block_itself want)
 
-pub no-row18 : (t j d pa : ℕ) → decodedTable d ≡ At (pageAddress pa) → row18 t j d pa ≡ []
+pub no_row18 : (t j d pa : ℕ) → decoded_table d ≡ At (page_address pa) → row18 t j d pa ≡ []
 unfolding row18
-no-row18 t j d pa e = rw (e, eq-eqb (pageAddress pa) _ refl)
+no_row18 t j d pa e = rw (e, eq-eqb (page_address pa) _ refl)
 
-pub no-row19 : (d pa : ℕ) → readBlock d ≡ leafWith (blockAddress pa) readExecute → row19 d pa ≡ []
+pub no_row19 : (d pa : ℕ) → read_block d ≡ leaf_with (block_address pa) read_execute → row19 d pa ≡ []
 unfolding row19
-no-row19 d pa e = rw (e, leaf-itself (leafWith (blockAddress pa) readExecute))
+no_row19 d pa e = rw (e, leaf_itself (leaf_with (block_address pa) read_execute))
 
 pub no_rows : (t : Bool) (rows : List Row) → (t ≡ true → rows ≡ []) → given t rows ≡ []
 no_rows true rows h = h refl

@@ -1,11 +1,11 @@
 // Verification of tables 1 to 3 (hv-s2's arm64.rs, `verify_encoding`): the words that name tables, the image's block, and no others.
 ghost use Rattle.std.specs.Prelude.{◌≤◌, ◌≡◌};
-ghost use Rattle.areas.specs.Area.{liveAreasOf};
+ghost use Rattle.areas.specs.Area.{live_areas_of};
 ghost use Rattle.layout.specs.Size.{entries};
-ghost use Rattle.layout.specs.Window.{l2Slot};
-ghost use Rattle.refusal.specs.Outcome.{outcomeOf};
+ghost use Rattle.layout.specs.Window.{l2_slot};
+ghost use Rattle.refusal.specs.Outcome.{outcome_of};
 ghost use Rattle.refusal.specs.Table.{first, given, each};
-ghost use Rattle.verify_rows.specs.Verifying.{word, liveRow, windowAt, imageAt, liveAt, otherRows, l1Rows, imageRows, dataRows};
+ghost use Rattle.verify_rows.specs.Verifying.{word, live_row, window_at, image_at, live_at, other_rows, l1_rows, image_rows, data_rows};
 ghost use Rattle.verify_rows.specs.Word.{row19};
 ghost use Rattle.verify_tables.specs.Sooner.{OnlySooner};
 
@@ -15,7 +15,7 @@ use refusal::{Refusal, Verdict};
 
 // Table 1.
 pub fn verify_l1(arena: &[u64], l: Layout) -> Verdict
-    ensures { outcomeOf result ≡ first (l1Rows arena.now l) }
+    ensures { outcome_of result ≡ first (l1_rows arena.now l) }
 {
     let live = live_words(arena, l);
     let Verdict::Accepted = live else {
@@ -26,7 +26,7 @@ pub fn verify_l1(arena: &[u64], l: Layout) -> Verdict
 
 // Data, super, image, device.
 fn live_words(arena: &[u64], l: Layout) -> Verdict
-    ensures { outcomeOf result ≡ first (each (liveRow arena.now) (liveAreasOf l)) }
+    ensures { outcome_of result ≡ first (each (live_row arena.now) (live_areas_of l)) }
 {
     for i in 0..Layout::WINDOWS {
         let verdict = live_word(arena, areas::live_area(l, i));
@@ -39,7 +39,7 @@ fn live_words(arena: &[u64], l: Layout) -> Verdict
 
 // Row 18.
 fn live_word(arena: &[u64], area: Area) -> Verdict
-    ensures { outcomeOf result ≡ first (liveRow arena.now area) }
+    ensures { outcome_of result ≡ first (live_row arena.now area) }
 {
     if !area.present {
         return Verdict::Accepted;
@@ -51,7 +51,7 @@ fn live_word(arena: &[u64], area: Area) -> Verdict
 
 // Table 2. With no image every word is wanted to be 0.
 pub fn verify_image(arena: &[u64], l: Layout) -> Verdict
-    ensures { outcomeOf result ≡ first (imageRows arena.now l) }
+    ensures { outcome_of result ≡ first (image_rows arena.now l) }
 {
     let image_pa = l.guest_image_pa;
     let image = image_pa.window();
@@ -64,7 +64,7 @@ pub fn verify_image(arena: &[u64], l: Layout) -> Verdict
 
 // Row 19.
 fn image_word(arena: &[u64], present: bool, ipa: u64, pa: u64) -> Verdict
-    ensures { outcomeOf result ≡ first (given present (row19 (word arena.now 2 (l2Slot ipa)) pa)) }
+    ensures { outcome_of result ≡ first (given present (row19 (word arena.now 2 (l2_slot ipa)) pa)) }
 {
     if !present {
         return Verdict::Accepted;
@@ -75,7 +75,7 @@ fn image_word(arena: &[u64], present: bool, ipa: u64, pa: u64) -> Verdict
 
 // Table 3.
 pub fn verify_data(arena: &[u64], l: Layout) -> Verdict
-    ensures { outcomeOf result ≡ first (dataRows arena.now l) }
+    ensures { outcome_of result ≡ first (data_rows arena.now l) }
 {
     let index = Layout::l2_index(l.data_ipa_base);
     let d = verify_read::table_word(arena, 3, index as u32);
@@ -88,7 +88,7 @@ pub fn verify_data(arena: &[u64], l: Layout) -> Verdict
 
 // Row 21 of one of tables 1 to 3. A word that is not 0 is compared with the slots as the layout gives them.
 fn other_words(arena: &[u64], l: Layout, table: u32) -> Verdict
-    ensures { outcomeOf result ≡ first (otherRows arena.now l table) }
+    ensures { outcome_of result ≡ first (other_rows arena.now l table) }
 {
     let mut j = past_zeros(arena, table, 0);
     while j < Layout::ENTRIES {
@@ -138,7 +138,7 @@ fn past_zeros(arena: &[u64], table: u32, j: usize) -> usize
 
 // Whether a word of one of tables 1 to 3 is wanted.
 fn live_at(l: Layout, table: u32, j: u64) -> bool
-    ensures { result ≡ liveAt l table j }
+    ensures { result ≡ live_at l table j }
 {
     match table {
         1 => window_at(l, j),
@@ -148,7 +148,7 @@ fn live_at(l: Layout, table: u32, j: u64) -> bool
 }
 
 fn window_at(l: Layout, j: u64) -> bool
-    ensures { result ≡ windowAt (liveAreasOf l) j }
+    ensures { result ≡ window_at (live_areas_of l) j }
 {
     for i in 0..Layout::WINDOWS {
         if areas::live_area(l, i).has(j) {
@@ -159,7 +159,7 @@ fn window_at(l: Layout, j: u64) -> bool
 }
 
 fn image_at(l: Layout, j: u64) -> bool
-    ensures { result ≡ imageAt l j }
+    ensures { result ≡ image_at l j }
 {
     let image_pa = l.guest_image_pa;
     let image = image_pa.window();

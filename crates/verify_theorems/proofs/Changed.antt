@@ -7,25 +7,25 @@ use native.Mathlib.Omega.{arith}
 use lib.Dec.{eqb, leb, ltb}
 use lib.ListN.{length, get_or, length-set}
 use borrow.Author.Tests.{eq-eqb, eqb-true, eqb-false, leb-true, ltb-true, not-false}
-use Rattle.areas.specs.Area.{liveAreasOf, areaSlot}
+use Rattle.areas.specs.Area.{live_areas_of, area_slot}
 use Rattle.areas.specs.declared.Area.{Area}
-use Rattle.desc.specs.Descriptor.{pageAddress, blockAddress}
+use Rattle.desc.specs.Descriptor.{page_address, block_address}
 use Rattle.fields.specs.Named.{pick}
-use Rattle.layout.specs.Size.{entries, page, block, tableCount, arenaLength}
-use Rattle.layout.specs.Window.{imageWindow, deviceWindow, l2Slot}
+use Rattle.layout.specs.Size.{entries, page, block, table_count, arena_length}
+use Rattle.layout.specs.Window.{image_window, device_window, l2_slot}
 use Rattle.layout.specs.declared.Layout.{Layout}
 use Rattle.layout.specs.declared.Window.{Window}
 use Rattle.refusal.proofs.None.{none, both, test}
 use Rattle.refusal.specs.Table.{Row, first, given, each, all_rows}
-use Rattle.rows.specs.Rows.{row1, mapRows, refusals}
+use Rattle.rows.specs.Rows.{row1, map_rows, refusals}
 use Rattle.verify_rows.proofs.Range.{everywhere}
-use Rattle.verify_rows.specs.Verifying.{word, range, indices, liveRow, liveAt, otherRow, otherRows, l1Rows, imageRows, dataRows, baseRow}
-use Rattle.verify_rows.specs.Verifying.{pageRows, superRow, superRows, wantedBlock, deviceRow, deviceRows, encodingRows, verifyRows}
-use Rattle.verify_rows.specs.Word.{readPage, readBlock, row18, row19, spurious, wantedLeaf, leafRow, block_row}
+use Rattle.verify_rows.specs.Verifying.{word, range, indices, live_row, live_at, other_row, other_rows, l1_rows, image_rows, data_rows, base_row}
+use Rattle.verify_rows.specs.Verifying.{page_rows, super_row, super_rows, wanted_block, device_row, device_rows, encoding_rows, verify_rows}
+use Rattle.verify_rows.specs.Word.{read_page, read_block, row18, row19, spurious, wanted_leaf, leaf_row, block_row}
 use Rattle.verify_theorems.specs.Examples.{Wrong}
 use Rattle.verify_theorems.specs.Verified.{Verifies, stored_at}
 use Rattle.verify_theorems.proofs.Sparse.{member, rising, sparse}
-use Rattle.verify_theorems.proofs.Stored.{stored-word}
+use Rattle.verify_theorems.proofs.Stored.{stored_word}
 use Rattle.verify_theorems.proofs.Told.{halves, neither}
 
 -- the other words
@@ -35,15 +35,15 @@ put [] arena = arena
 put (w ∷ ws) arena = stored_at w.table w.index w.word (put ws arena)
 
 abbrev in_words : Wrong → Bool
-in_words w = leb 1 w.table && (leb w.table tableCount && ltb w.index entries)
+in_words w = leb 1 w.table && (leb w.table table_count && ltb w.index entries)
 
 abbrev inside : List Wrong → Bool
 inside [] = true
 inside (w ∷ ws) = in_words w && inside ws
 
-put-long : (ws : List Wrong) (arena : List ℕ) → length (put ws arena) ≡ length arena
-put-long [] arena = refl
-put-long (w ∷ ws) arena = length-set (put ws arena) _ _ ∙ put-long ws arena
+put_long : (ws : List Wrong) (arena : List ℕ) → length (put ws arena) ≡ length arena
+put_long [] arena = refl
+put_long (w ∷ ws) arena = length-set (put ws arena) _ _ ∙ put_long ws arena
 
 abbrev at : Wrong → ℕ → ℕ → Bool
 at w t j = eqb w.table t && eqb w.index j
@@ -54,23 +54,23 @@ found [] t j rows = []
 found (w ∷ ws) t j rows = pick (at w t j) (rows w.word) (found ws t j rows)
 
 one :
-    (arena : List ℕ) (w : Wrong) (t j : ℕ) → length arena ≡ arenaLength → in_words w ≡ true → 1 ≤ t → j < entries →
+    (arena : List ℕ) (w : Wrong) (t j : ℕ) → length arena ≡ arena_length → in_words w ≡ true → 1 ≤ t → j < entries →
     word (stored_at w.table w.index w.word arena) t j ≡ pick (at w t j) w.word (word arena t j)
 one arena w t j long ok lo h =
     let lowest = halves (leb 1 w.table) _ ok in
-    let highest = halves (leb w.table tableCount) _ lowest.1 in
-    stored-word arena w.table w.index w.word long (leb-true 1 w.table lowest.0)
-    (leb-true w.table tableCount highest.0) (ltb-true w.index entries highest.1) t j lo h
+    let highest = halves (leb w.table table_count) _ lowest.1 in
+    stored_word arena w.table w.index w.word long (leb-true 1 w.table lowest.0)
+    (leb-true w.table table_count highest.0) (ltb-true w.index entries highest.1) t j lo h
 
 -- the verified words draw nothing, so that only the others' rows are left
 seen :
     (arena : List ℕ) (ws : List Wrong) (t j : ℕ) (rows : ℕ → List Row) →
-    length arena ≡ arenaLength → inside ws ≡ true → 1 ≤ t → j < entries → rows (word arena t j) ≡ [] →
+    length arena ≡ arena_length → inside ws ≡ true → 1 ≤ t → j < entries → rows (word arena t j) ≡ [] →
     rows (word (put ws arena) t j) ≡ found ws t j rows
 seen arena [] t j rows long ok lo h e = e
 seen arena (w ∷ ws) t j rows long ok lo h e =
     let parts = halves (in_words w) _ ok in
-    ap rows (one (put ws arena) w t j (put-long ws arena ∙ long) parts.0 lo h)
+    ap rows (one (put ws arena) w t j (put_long ws arena ∙ long) parts.0 lo h)
     ∙ picked (at w t j) rows w.word (word (put ws arena) t j) (seen arena ws t j rows long parts.1 lo h e)
   where
     picked :
@@ -95,9 +95,9 @@ swap true false c = refl
 swap false true c = refl
 swap false false c = refl
 
-member-insert : (m x : ℕ) (ys : List ℕ) → member m (insert x ys) ≡ (eqb m x || member m ys)
-member-insert m x [] = refl
-member-insert m x (y ∷ ys) = go (ltb x y) (member-insert m x ys)
+member_insert : (m x : ℕ) (ys : List ℕ) → member m (insert x ys) ≡ (eqb m x || member m ys)
+member_insert m x [] = refl
+member_insert m x (y ∷ ys) = go (ltb x y) (member_insert m x ys)
   where
     go :
         (b : Bool) → member m (insert x ys) ≡ (eqb m x || member m ys) →
@@ -119,12 +119,12 @@ gaps (w ∷ ws) key t m j rows back miss =
         member m (pick a (insert (key w.index) (numbers key t ws)) (numbers key t ws)) ≡ false →
         pick (a && b) (rows w.word) (found ws t j rows) ≡ []
     go true true q later miss =
-        let parts = neither (eqb m (key w.index)) _ (sym (member-insert m (key w.index) (numbers key t ws)) ∙ miss) in
+        let parts = neither (eqb m (key w.index)) _ (sym (member_insert m (key w.index) (numbers key t ws)) ∙ miss) in
         let here = eq-eqb m (key w.index) (sym back ∙ sym (ap key (eqb-true w.index j q))) in
         let clash = sym here ∙ parts.0 in
         absurd (let z : ◌≡◌ {A = ℕ} 0 1 = cc in omega arith)
     go true false q later miss =
-        later (neither (eqb m (key w.index)) _ (sym (member-insert m (key w.index) (numbers key t ws)) ∙ miss)).1
+        later (neither (eqb m (key w.index)) _ (sym (member_insert m (key w.index) (numbers key t ws)) ∙ miss)).1
     go false b q later miss = later miss
 
 -- rows alike for each number are alike for all
@@ -136,39 +136,39 @@ alike f g k (suc n) same =
 
 -- each part of the list: the rows of a word by what is wanted there
 
-abbrev liveOne : Area → ℕ → List Row
-liveOne a d = given a.present (row18 1 (areaSlot a) d a.table)
+abbrev live_one : Area → ℕ → List Row
+live_one a d = given a.present (row18 1 (area_slot a) d a.table)
 
 abbrev other : Layout → ℕ → ℕ → ℕ → List Row
-other l t j d = given (not (eqb d 0) && not (liveAt l t j)) (spurious t j d ∷ [])
+other l t j d = given (not (eqb d 0) && not (live_at l t j)) (spurious t j d ∷ [])
 
 abbrev image : Layout → Window
-image l = imageWindow l.guest_image_pa
+image l = image_window l.guest_image_pa
 
-abbrev imageOne : Layout → ℕ → List Row
-imageOne l d = given (image l).present (row19 d (image l).pa)
+abbrev image_one : Layout → ℕ → List Row
+image_one l d = given (image l).present (row19 d (image l).pa)
 
-abbrev dataOne : Layout → ℕ → List Row
-dataOne l d = row18 3 (l2Slot l.data_ipa_base) d l.l3_data_pa
+abbrev data_one : Layout → ℕ → List Row
+data_one l d = row18 3 (l2_slot l.data_ipa_base) d l.l3_data_pa
 
-abbrev pageOne : List ℕ → Layout → ℕ → ℕ → List Row
-pageOne base l m d =
-    leafRow 4 m d m (readPage d) (wantedLeaf (get_or base m 0) (pageAddress (l.data_pa_base + m * page)) false)
+abbrev page_one : List ℕ → Layout → ℕ → ℕ → List Row
+page_one base l m d =
+    leaf_row 4 m d m (read_page d) (wanted_leaf (get_or base m 0) (page_address (l.data_pa_base + m * page)) false)
 
 -- where super frame m stands, and which frame stands there
-abbrev superAt : Layout → ℕ → ℕ
-superAt l m = l2Slot (l.sup_ipa_base + m * block)
+abbrev super_at : Layout → ℕ → ℕ
+super_at l m = l2_slot (l.sup_ipa_base + m * block)
 
 abbrev frame_at : Layout → ℕ → ℕ
-frame_at l j = (j + (entries - l2Slot l.sup_ipa_base)) % entries
+frame_at l j = (j + (entries - l2_slot l.sup_ipa_base)) % entries
 
-abbrev superOne : List ℕ → Layout → ℕ → ℕ → List Row
-superOne sup l m d =
-    leafRow 5 (superAt l m) d m (readBlock d)
-    (wantedLeaf (get_or sup m 0) (blockAddress (l.sup_pa_base + m * block)) l.sup_wx_exempt)
+abbrev super_one : List ℕ → Layout → ℕ → ℕ → List Row
+super_one sup l m d =
+    leaf_row 5 (super_at l m) d m (read_block d)
+    (wanted_leaf (get_or sup m 0) (block_address (l.sup_pa_base + m * block)) l.sup_wx_exempt)
 
-abbrev deviceOne : ℕ → Window → ℕ → ℕ → List Row
-deviceOne t w j d = block_row t j d (wantedBlock w j)
+abbrev device_one : ℕ → Window → ℕ → ℕ → List Row
+device_one t w j d = block_row t j d (wanted_block w j)
 
 abbrev itself : ℕ → ℕ
 itself j = j
@@ -182,13 +182,13 @@ abbrev rises : Layout → List Wrong → ℕ → ℕ → Bool
 rises l ws t zero = true
 rises l ws t (suc n) = rising entries 0 (numbers (key_of l t) t ws) && rises l ws (suc t) n
 
-rises-at :
+rises_at :
     (l : Layout) (ws : List Wrong) (t n k : ℕ) → rises l ws t n ≡ true → t ≤ k → k < t + n →
     rising entries 0 (numbers (key_of l k) k ws) ≡ true
-rises-at l ws t zero k up lo hi = absurd (omega (arith, lo, hi))
-rises-at l ws t (suc n) k up lo hi =
+rises_at l ws t zero k up lo hi = absurd (omega (arith, lo, hi))
+rises_at l ws t (suc n) k up lo hi =
     let parts = halves (rising entries 0 (numbers (key_of l t) t ws)) _ up in
-    go (eqb k t) refl parts.0 (λ past. rises-at l ws (suc t) n k parts.1 past (omega (arith, hi)))
+    go (eqb k t) refl parts.0 (λ past. rises_at l ws (suc t) n k parts.1 past (omega (arith, hi)))
   where
     go :
         (b : Bool) → eqb k t ≡ b → rising entries 0 (numbers (key_of l t) t ws) ≡ true →
@@ -198,7 +198,7 @@ rises-at l ws t (suc n) k up lo hi =
 
 -- the others are inside the arena, and are sorted table by table
 abbrev pub sorted : Layout → List Wrong → Bool
-sorted l ws = inside ws && rises l ws 1 tableCount
+sorted l ws = inside ws && rises l ws 1 table_count
 
 abbrev others : List Wrong → Layout → ℕ → List Row
 others ws l t = each (λ j. found ws t j (other l t j)) (numbers itself t ws)
@@ -207,26 +207,26 @@ others ws l t = each (λ j. found ws t j (other l t j)) (numbers itself t ws)
 abbrev pub drawn : List Wrong → List ℕ → List ℕ → Layout → List Row
 drawn ws base sup l =
     all_rows
-    (all_rows (each (λ a. found ws 1 (areaSlot a) (liveOne a)) (liveAreasOf l) ∷ others ws l 1 ∷ [])
-    ∷ all_rows (found ws 2 (l2Slot (image l).ipa) (imageOne l) ∷ others ws l 2 ∷ [])
-    ∷ all_rows (found ws 3 (l2Slot l.data_ipa_base) (dataOne l) ∷ others ws l 3 ∷ [])
-    ∷ each (λ m. found ws 4 m (pageOne base l m)) (numbers itself 4 ws)
-    ∷ each (λ m. found ws 5 (superAt l m) (superOne sup l m)) (numbers (frame_at l) 5 ws)
-    ∷ each (λ j. found ws 6 j (deviceOne 6 (deviceWindow l) j)) (numbers itself 6 ws)
+    (all_rows (each (λ a. found ws 1 (area_slot a) (live_one a)) (live_areas_of l) ∷ others ws l 1 ∷ [])
+    ∷ all_rows (found ws 2 (l2_slot (image l).ipa) (image_one l) ∷ others ws l 2 ∷ [])
+    ∷ all_rows (found ws 3 (l2_slot l.data_ipa_base) (data_one l) ∷ others ws l 3 ∷ [])
+    ∷ each (λ m. found ws 4 m (page_one base l m)) (numbers itself 4 ws)
+    ∷ each (λ m. found ws 5 (super_at l m) (super_one sup l m)) (numbers (frame_at l) 5 ws)
+    ∷ each (λ j. found ws 6 j (device_one 6 (device_window l) j)) (numbers itself 6 ws)
     ∷ [])
 
 by_index : (m : ℕ) → m < entries → (itself m < entries) × (itself m ≡ m)
 by_index m h = (h, refl)
 
-by-frame : (l : Layout) (m : ℕ) → m < entries → (superAt l m < entries) × (frame_at l (superAt l m) ≡ m)
-by-frame l m h = (omega arith, omega (arith, h))
+by_frame : (l : Layout) (m : ℕ) → m < entries → (super_at l m < entries) × (frame_at l (super_at l m) ≡ m)
+by_frame l m h = (omega arith, omega (arith, h))
 
-module _ (arena base sup : List ℕ) (l : Layout) (ws : List Wrong) (long : length arena ≡ arenaLength) (good : sorted l ws ≡ true) where
+module _ (arena base sup : List ℕ) (l : Layout) (ws : List Wrong) (long : length arena ≡ arena_length) (good : sorted l ws ≡ true) where
   ok : inside ws ≡ true
   ok = (halves (inside ws) _ good).0
 
-  up : (t : ℕ) → 1 ≤ t → t ≤ tableCount → rising entries 0 (numbers (key_of l t) t ws) ≡ true
-  up t lo hi = rises-at l ws 1 tableCount t (halves (inside ws) _ good).1 lo (omega (arith, hi))
+  up : (t : ℕ) → 1 ≤ t → t ≤ table_count → rising entries 0 (numbers (key_of l t) t ws) ≡ true
+  up t lo hi = rises_at l ws 1 table_count t (halves (inside ws) _ good).1 lo (omega (arith, hi))
 
   -- a part of the list that goes by number
   numbered :
@@ -244,56 +244,56 @@ module _ (arena base sup : List ℕ) (l : Layout) (ws : List Wrong) (long : leng
       ∙ sparse (λ m. found ws t (place m) (rows m)) entries 0 (numbers key t ws) (omega arith) up
       (λ m le lt miss. gaps ws key t m (place m) (rows m) (back m lt).1 miss)
 
-  other-words :
-      (t : ℕ) → 1 ≤ t → otherRows arena l t ≡ [] → rising entries 0 (numbers itself t ws) ≡ true →
-      otherRows (put ws arena) l t ≡ others ws l t
-  unfolding otherRow
-  other-words t lo clean up = numbered t itself itself (other l t) lo by_index clean up
+  other_words :
+      (t : ℕ) → 1 ≤ t → other_rows arena l t ≡ [] → rising entries 0 (numbers itself t ws) ≡ true →
+      other_rows (put ws arena) l t ≡ others ws l t
+  unfolding other_row
+  other_words t lo clean up = numbered t itself itself (other l t) lo by_index clean up
 
-  live-words :
-      (xs : List Area) → each (liveRow arena) xs ≡ [] →
-      each (liveRow (put ws arena)) xs ≡ each (λ a. found ws 1 (areaSlot a) (liveOne a)) xs
-  unfolding flat_map liveRow
-  live-words [] clean = refl
-  live-words (a ∷ xs) clean =
-      let parts = both (liveRow arena a) (each (liveRow arena) xs) clean in
-      rw (seen arena ws 1 (areaSlot a) (liveOne a) long ok (omega arith) (omega arith) parts.0, live-words xs parts.1)
+  live_words :
+      (xs : List Area) → each (live_row arena) xs ≡ [] →
+      each (live_row (put ws arena)) xs ≡ each (λ a. found ws 1 (area_slot a) (live_one a)) xs
+  unfolding flat_map live_row
+  live_words [] clean = refl
+  live_words (a ∷ xs) clean =
+      let parts = both (live_row arena a) (each (live_row arena) xs) clean in
+      rw (seen arena ws 1 (area_slot a) (live_one a) long ok (omega arith) (omega arith) parts.0, live_words xs parts.1)
 
-  all_words : encodingRows arena base sup l ≡ [] → encodingRows (put ws arena) base sup l ≡ drawn ws base sup l
-  unfolding encodingRows l1Rows imageRows dataRows baseRow superRow deviceRow flat_map
+  all_words : encoding_rows arena base sup l ≡ [] → encoding_rows (put ws arena) base sup l ≡ drawn ws base sup l
+  unfolding encoding_rows l1_rows image_rows data_rows base_row super_row device_row flat_map
   all_words clean =
-      let part1 = both (l1Rows arena l) _ clean in
-      let part2 = both (imageRows arena l) _ part1.1 in
-      let part3 = both (dataRows arena l) _ part2.1 in
-      let part4 = both (pageRows arena base l) _ part3.1 in
-      let part5 = both (superRows arena sup l) _ part4.1 in
-      let part6 = both (deviceRows arena 6 (deviceWindow l)) [] part5.1 in
-      let live = both (each (liveRow arena) (liveAreasOf l)) _ part1.0 in
-      let blocks = both (imageOne l (word arena 2 (l2Slot (image l).ipa))) _ part2.0 in
-      let named = both (dataOne l (word arena 3 (l2Slot l.data_ipa_base))) _ part3.0 in
+      let part1 = both (l1_rows arena l) _ clean in
+      let part2 = both (image_rows arena l) _ part1.1 in
+      let part3 = both (data_rows arena l) _ part2.1 in
+      let part4 = both (page_rows arena base l) _ part3.1 in
+      let part5 = both (super_rows arena sup l) _ part4.1 in
+      let part6 = both (device_rows arena 6 (device_window l)) [] part5.1 in
+      let live = both (each (live_row arena) (live_areas_of l)) _ part1.0 in
+      let blocks = both (image_one l (word arena 2 (l2_slot (image l).ipa))) _ part2.0 in
+      let named = both (data_one l (word arena 3 (l2_slot l.data_ipa_base))) _ part3.0 in
       rw (
-        live-words (liveAreasOf l) live.0,
-        other-words 1 (omega arith) (both (otherRows arena l 1) [] live.1).0 (up 1 (omega arith) (omega arith)),
-        seen arena ws 2 (l2Slot (image l).ipa) (imageOne l) long ok (omega arith) (omega arith) blocks.0,
-        other-words 2 (omega arith) (both (otherRows arena l 2) [] blocks.1).0 (up 2 (omega arith) (omega arith)),
-        seen arena ws 3 (l2Slot l.data_ipa_base) (dataOne l) long ok (omega arith) (omega arith) named.0,
-        other-words 3 (omega arith) (both (otherRows arena l 3) [] named.1).0 (up 3 (omega arith) (omega arith)),
-        numbered 4 itself itself (pageOne base l) (omega arith) by_index part4.0 (up 4 (omega arith) (omega arith)),
-        numbered 5 (superAt l) (frame_at l) (superOne sup l) (omega arith) (by-frame l) part5.0 (up 5 (omega arith) (omega arith)),
-        numbered 6 itself itself (deviceOne 6 (deviceWindow l)) (omega arith) by_index part6.0 (up 6 (omega arith) (omega arith)),
+        live_words (live_areas_of l) live.0,
+        other_words 1 (omega arith) (both (other_rows arena l 1) [] live.1).0 (up 1 (omega arith) (omega arith)),
+        seen arena ws 2 (l2_slot (image l).ipa) (image_one l) long ok (omega arith) (omega arith) blocks.0,
+        other_words 2 (omega arith) (both (other_rows arena l 2) [] blocks.1).0 (up 2 (omega arith) (omega arith)),
+        seen arena ws 3 (l2_slot l.data_ipa_base) (data_one l) long ok (omega arith) (omega arith) named.0,
+        other_words 3 (omega arith) (both (other_rows arena l 3) [] named.1).0 (up 3 (omega arith) (omega arith)),
+        numbered 4 itself itself (page_one base l) (omega arith) by_index part4.0 (up 4 (omega arith) (omega arith)),
+        numbered 5 (super_at l) (frame_at l) (super_one sup l) (omega arith) (by_frame l) part5.0 (up 5 (omega arith) (omega arith)),
+        numbered 6 itself itself (device_one 6 (device_window l)) (omega arith) by_index part6.0 (up 6 (omega arith) (omega arith)),
       )
 
-pub first-drawn :
+pub first_drawn :
     (arena base sup : List ℕ) (l : Layout) (ws : List Wrong) → Verifies arena base sup l → sorted l ws ≡ true →
-    first (verifyRows (put ws arena) base sup l) ≡ first (drawn ws base sup l)
-unfolding verifyRows row1 flat_map
-first-drawn arena base sup l ws v good =
+    first (verify_rows (put ws arena) base sup l) ≡ first (drawn ws base sup l)
+unfolding verify_rows row1 flat_map
+first_drawn arena base sup l ws v good =
     let lent = both (row1 arena) _ (none _ v) in
-    let maps = both (mapRows base sup) _ lent.1 in
+    let maps = both (map_rows base sup) _ lent.1 in
     let valid = both (refusals l) _ maps.1 in
-    let words = both (encodingRows arena base sup l) [] valid.1 in
-    let long = eqb-true (length arena) arenaLength (not-false _ (test _ 1 [] lent.0)) in
-    let still = eq-eqb (length (put ws arena)) arenaLength (put-long ws arena ∙ long) in
+    let words = both (encoding_rows arena base sup l) [] valid.1 in
+    let long = eqb-true (length arena) arena_length (not-false _ (test _ 1 [] lent.0)) in
+    let still = eq-eqb (length (put ws arena)) arena_length (put_long ws arena ∙ long) in
     let rows = drawn ws base sup l in
     let whole : rows ++ [] ≡ rows = append-nil rows in
     rw (still, maps.0, valid.0, all_words arena base sup l ws long good words.0, whole)

@@ -9,16 +9,16 @@ use lib.ListN.{length, get_or}
 use lib.Seq.{get_or-set_same, get_or-set_other}
 use borrow.Author.Tests.{eq-eqb, eqb-true}
 use Rattle.fields.specs.Named.{pick}
-use Rattle.layout.specs.Size.{entries, tableCount, arenaLength, first_word}
+use Rattle.layout.specs.Size.{entries, table_count, arena_length, first_word}
 use Rattle.verify_rows.specs.Verifying.{word}
 use Rattle.verify_theorems.specs.Verified.{stored_at}
 use Rattle.verify_theorems.proofs.Told.{halves}
 
 -- at index i of table s
-module _ (arena : List ℕ) (s i d : ℕ) (long : length arena ≡ arenaLength) (from : 1 ≤ s) (to : s ≤ tableCount) (below : i < entries) where
-  pub stored-word :
+module _ (arena : List ℕ) (s i d : ℕ) (long : length arena ≡ arena_length) (from : 1 ≤ s) (to : s ≤ table_count) (below : i < entries) where
+  pub stored_word :
       (t j : ℕ) → 1 ≤ t → j < entries → word (stored_at s i d arena) t j ≡ pick (eqb s t && eqb i j) d (word arena t j)
-  stored-word t j lo h = go (eqb s t && eqb i j) refl
+  stored_word t j lo h = go (eqb s t && eqb i j) refl
     where
       go : (b : Bool) → (eqb s t && eqb i j) ≡ b → word (stored_at s i d arena) t j ≡ pick b d (word arena t j)
       go true q =

@@ -1,9 +1,9 @@
 // Rows 18 to 22 of document 01's table, of one word: what its decoder finds there, against what is wanted (hv-s2's arm64.rs).
 ghost use Rattle.std.specs.Prelude.{◌≡◌};
 ghost use Rattle.decode.specs.declared.DecodedBlock.TheVariants.{Device};
-ghost use Rattle.refusal.specs.Outcome.{outcomeOf};
+ghost use Rattle.refusal.specs.Outcome.{outcome_of};
 ghost use Rattle.refusal.specs.Table.{first};
-ghost use Rattle.verify_rows.specs.Word.{sameTable, sameBlock, row18, row19, leafRow, block_row};
+ghost use Rattle.verify_rows.specs.Word.{same_table, same_block, row18, row19, leaf_row, block_row};
 
 use decode::{Decoded, DecodedBlock, DecodedDevice, DecodedLeaf, DecodedTable};
 use perm::Perm;
@@ -11,7 +11,7 @@ use refusal::{Refusal, Verdict};
 
 // Row 18.
 pub fn table_entry(table: u64, index: u64, d: u64, pa: u64) -> Verdict
-    ensures { outcomeOf result ≡ first (row18 table index d pa) }
+    ensures { outcome_of result ≡ first (row18 table index d pa) }
 {
     let expected = arena::page_address(pa, 0);
     let found = decode::decode_table(d);
@@ -28,7 +28,7 @@ pub fn table_entry(table: u64, index: u64, d: u64, pa: u64) -> Verdict
 
 // Whether it is the table at the address.
 fn names(found: DecodedTable, pa: u64) -> bool
-    ensures { result ≡ sameTable found pa }
+    ensures { result ≡ same_table found pa }
 {
     match found {
         DecodedTable::At(named) => named == pa,
@@ -38,7 +38,7 @@ fn names(found: DecodedTable, pa: u64) -> bool
 
 // Row 19. The image is the guest's code: it reads and executes, and nothing writes it.
 pub fn image_block(d: u64, pa: u64) -> Verdict
-    ensures { outcomeOf result ≡ first (row19 d pa) }
+    ensures { outcome_of result ≡ first (row19 d pa) }
 {
     let expected = arena::block_address(pa, 0);
     let found = verify_read::read_block(d);
@@ -62,7 +62,7 @@ pub fn leaf(
     found: DecodedLeaf,
     want: DecodedLeaf,
 ) -> Verdict
-    ensures { outcomeOf result ≡ first (leafRow table index d mfn found want) }
+    ensures { outcome_of result ≡ first (leaf_row table index d mfn found want) }
 {
     if verify_read::same_leaf(found, want) {
         return Verdict::Accepted;
@@ -83,7 +83,7 @@ pub fn leaf(
 
 // Row 22, or 21 where nothing is wanted.
 pub fn device_block(table: u64, index: u64, d: u64, want: DecodedBlock) -> Verdict
-    ensures { outcomeOf result ≡ first (block_row table index d want) }
+    ensures { outcome_of result ≡ first (block_row table index d want) }
 {
     if same_block(decode::decode_device_block(d), want) {
         return Verdict::Accepted;
@@ -99,7 +99,7 @@ pub fn device_block(table: u64, index: u64, d: u64, want: DecodedBlock) -> Verdi
 }
 
 fn same_block(found: DecodedBlock, want: DecodedBlock) -> bool
-    ensures { result ≡ sameBlock found want }
+    ensures { result ≡ same_block found want }
 {
     match found {
         DecodedBlock::Device(a) => match want {
@@ -114,7 +114,7 @@ fn same_block(found: DecodedBlock, want: DecodedBlock) -> bool
 }
 
 fn same_device(a: DecodedDevice, b: DecodedDevice) -> bool
-    ensures { result ≡ sameBlock (Device a) (Device b) }
+    ensures { result ≡ same_block (Device a) (Device b) }
 {
     if a.pa != b.pa {
         return false;

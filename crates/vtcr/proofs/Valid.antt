@@ -4,36 +4,36 @@ use mathlib.Core.Bool.{true, and-eq-true_iff}
 use mathlib.Core.Path.{◌≡◌}
 use native.Mathlib.Omega.{arith}
 use borrow.Author.Tests.{leb-true, ltb-true}
-use Rattle.granule.proofs.Bounds.{page-range, sl0-range, tg0-range}
-use Rattle.granule.specs.Granule.{pageBits}
-use Rattle.regime.specs.Regime.{inputFits, validRegime}
+use Rattle.granule.proofs.Bounds.{page_range, sl0_range, tg0_range}
+use Rattle.granule.specs.Granule.{page_bits}
+use Rattle.regime.specs.Regime.{input_fits, valid_regime}
 use Rattle.regime.specs.declared.Stage2Regime.{Stage2Regime}
-use Rattle.sizes.proofs.Bounds.{ps-range, vs-range}
+use Rattle.sizes.proofs.Bounds.{ps_range, vs_range}
 use Rattle.sizes.specs.declared.VmidBits.{VmidBits}
 use Rattle.vtcr.specs.Fields.{InRange}
-use Rattle.vtcr.specs.Vtcr.{fieldsFor}
+use Rattle.vtcr.specs.Vtcr.{fields_for}
 
 pub record Valid (r : Stage2Regime) : Type 0 where
   pub wide : r.ipa_bits ≤ 48
-  pub page : pageBits r.granule < r.ipa_bits
+  pub page : page_bits r.granule < r.ipa_bits
   pub shareability : r.walk_shareability ≤ 3
   pub inner : r.walk_inner ≤ 3
   pub outer : r.walk_outer ≤ 3
 
-input-facts : (r : Stage2Regime) → inputFits r ≡ true → (r.ipa_bits ≤ 48) × (pageBits r.granule < r.ipa_bits)
-unfolding inputFits
-input-facts r e =
+input_facts : (r : Stage2Regime) → input_fits r ≡ true → (r.ipa_bits ≤ 48) × (page_bits r.granule < r.ipa_bits)
+unfolding input_fits
+input_facts r e =
     let l = (and-eq-true_iff _ _).0 ((and-eq-true_iff _ _).0 e).0 in
     let p = (and-eq-true_iff _ _).0 l.0 in
     (leb-true _ _ p.0, ltb-true _ _ p.1)
 
-pub facts : (r : Stage2Regime) → validRegime r ≡ true → Valid r
-unfolding validRegime
+pub facts : (r : Stage2Regime) → valid_regime r ≡ true → Valid r
+unfolding valid_regime
 facts r e =
     let o = (and-eq-true_iff _ _).0 e in
     let i = (and-eq-true_iff _ _).0 o.0 in
     let h = (and-eq-true_iff _ _).0 i.0 in
-    let p = input-facts r h.0 in
+    let p = input_facts r h.0 in
     record {
       wide = p.0;
       page = p.1;
@@ -43,18 +43,18 @@ facts r e =
     }
 
 -- the fields of a valid regime fit their places
-pub in-range : (r : Stage2Regime) (b : VmidBits) → Valid r → InRange (fieldsFor r b)
-in-range r b v =
-    let g = page-range r.granule in
+pub in_range : (r : Stage2Regime) (b : VmidBits) → Valid r → InRange (fields_for r b)
+in_range r b v =
+    let g = page_range r.granule in
     record {
       t0sz = omega arith;
-      sl0 = sl0-range r.start_level;
+      sl0 = sl0_range r.start_level;
       irgn0 = omega arith;
       orgn0 = omega arith;
       sh0 = omega arith;
-      tg0 = tg0-range r.granule;
-      ps = ps-range r.pa_size;
-      vs = vs-range b;
+      tg0 = tg0_range r.granule;
+      ps = ps_range r.pa_size;
+      vs = vs_range b;
       res1 = omega arith;
       ds = omega arith;
     }

@@ -4,8 +4,8 @@ use Rattle.fields.specs.Bits.{bits}
 use Rattle.vtcr.specs.declared.VtcrFields.{VtcrFields}
 
 -- the fields of a value: bit 31 is RES1, and DS selects another descriptor format
-abbrev pub vtcrFieldsOf : ℕ → VtcrFields
-vtcrFieldsOf v =
+abbrev pub vtcr_fields_of : ℕ → VtcrFields
+vtcr_fields_of v =
     record {
       t0sz = bits 5 0 v;
       sl0 = bits 7 6 v;
@@ -20,8 +20,8 @@ vtcrFieldsOf v =
     }
 
 -- the value that has these fields, each cut to its place, and no other bit
-abbrev pub vtcrJoined : VtcrFields → ℕ
-vtcrJoined f =
+abbrev pub vtcr_joined : VtcrFields → ℕ
+vtcr_joined f =
     f.t0sz % 2 ^ 6
     + f.sl0 % 2 ^ 2 * 2 ^ 6
     + f.irgn0 % 2 ^ 2 * 2 ^ 8
@@ -48,4 +48,4 @@ pub record InRange (f : VtcrFields) : Type 0 where
 
 -- fields that fit come back
 abbrev pub FieldsBack : Type 0
-FieldsBack = (f : VtcrFields) → InRange f → vtcrFieldsOf (vtcrJoined f) ≡ f
+FieldsBack = (f : VtcrFields) → InRange f → vtcr_fields_of (vtcr_joined f) ≡ f

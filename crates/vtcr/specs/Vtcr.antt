@@ -1,22 +1,22 @@
 -- The VTCR_EL2 value of a regime, and the regime that a value names.
 use Rattle.std.specs.Prelude.{ℕ, ◌-◌, eqb}
 use Rattle.fields.specs.Named.{pick}
-use Rattle.granule.specs.Granule.{tg0, granuleNamed}
-use Rattle.granule.specs.StartLevel.{sl0, levelNamed}
+use Rattle.granule.specs.Granule.{tg0, granule_named}
+use Rattle.granule.specs.StartLevel.{sl0, level_named}
 use Rattle.granule.specs.declared.Granule.{Granule}
 use Rattle.granule.specs.declared.GranuleNamed.TheVariants.{Granule as IsGranule, Reserved as NoGranule}
 use Rattle.granule.specs.declared.GranuleNamed.{GranuleNamed}
 use Rattle.granule.specs.declared.LevelNamed.TheVariants.{Level, Reserved as NoLevel}
 use Rattle.granule.specs.declared.LevelNamed.{LevelNamed}
 use Rattle.granule.specs.declared.StartLevel.{StartLevel}
-use Rattle.regime.specs.Regime.{validRegime}
+use Rattle.regime.specs.Regime.{valid_regime}
 use Rattle.regime.specs.declared.Stage2Regime.{Stage2Regime}
-use Rattle.sizes.specs.Codes.{ps, sizeNamed, vs, vmidBitsNamed}
+use Rattle.sizes.specs.Codes.{ps, size_named, vs, vmid_bits_named}
 use Rattle.sizes.specs.declared.PaSize.{PaSize}
 use Rattle.sizes.specs.declared.SizeNamed.TheVariants.{Size, Reserved as NoSize}
 use Rattle.sizes.specs.declared.SizeNamed.{SizeNamed}
 use Rattle.sizes.specs.declared.VmidBits.{VmidBits}
-use Rattle.vtcr.specs.Fields.{vtcrFieldsOf, vtcrJoined}
+use Rattle.vtcr.specs.Fields.{vtcr_fields_of, vtcr_joined}
 use Rattle.vtcr.specs.declared.DecodedVtcr.TheVariants.{Regime, Nothing}
 use Rattle.vtcr.specs.declared.DecodedVtcr.{DecodedVtcr}
 use Rattle.vtcr.specs.declared.Vtcr.TheVariants.{Value, Invalid}
@@ -24,8 +24,8 @@ use Rattle.vtcr.specs.declared.Vtcr.{Vtcr}
 use Rattle.vtcr.specs.declared.VtcrFields.{VtcrFields}
 
 -- the fields of a regime and a width: RES1 is one, and DS, HA and HD are zero
-abbrev pub fieldsFor : Stage2Regime → VmidBits → VtcrFields
-fieldsFor r b =
+abbrev pub fields_for : Stage2Regime → VmidBits → VtcrFields
+fields_for r b =
     record {
       t0sz = 64 - r.ipa_bits;
       sl0 = sl0 r.start_level;
@@ -39,12 +39,12 @@ fieldsFor r b =
       ds = 0;
     }
 
-abbrev pub vtcrOf : Stage2Regime → VmidBits → Vtcr
-vtcrOf r b = pick (validRegime r) (Value (vtcrJoined (fieldsFor r b))) Invalid
+abbrev pub vtcr_of : Stage2Regime → VmidBits → Vtcr
+vtcr_of r b = pick (valid_regime r) (Value (vtcr_joined (fields_for r b))) Invalid
 
 -- the regime of these fields, by the granule, level and size that they name
-abbrev pub regimeWith : VtcrFields → Granule → StartLevel → PaSize → Stage2Regime
-regimeWith f g l s =
+abbrev pub regime_with : VtcrFields → Granule → StartLevel → PaSize → Stage2Regime
+regime_with f g l s =
     record {
       granule = g;
       ipa_bits = 64 - f.t0sz;
@@ -56,19 +56,19 @@ regimeWith f g l s =
     }
 
 -- a reserved granule, level or size names no regime, nor do fields that name an invalid one
-abbrev pub regimeOf : VtcrFields → GranuleNamed → LevelNamed → SizeNamed → DecodedVtcr
-regimeOf f (IsGranule g) (Level l) (Size s) =
-    pick (validRegime (regimeWith f g l s)) (Regime (regimeWith f g l s) (vmidBitsNamed f.vs)) Nothing
-regimeOf f (IsGranule g) (Level l) NoSize = Nothing
-regimeOf f (IsGranule g) NoLevel s = Nothing
-regimeOf f NoGranule l s = Nothing
+abbrev pub regime_of : VtcrFields → GranuleNamed → LevelNamed → SizeNamed → DecodedVtcr
+regime_of f (IsGranule g) (Level l) (Size s) =
+    pick (valid_regime (regime_with f g l s)) (Regime (regime_with f g l s) (vmid_bits_named f.vs)) Nothing
+regime_of f (IsGranule g) (Level l) NoSize = Nothing
+regime_of f (IsGranule g) NoLevel s = Nothing
+regime_of f NoGranule l s = Nothing
 
-unfoldable pub regimeNamed : VtcrFields → DecodedVtcr
-regimeNamed f = regimeOf f (granuleNamed f.tg0) (levelNamed f.sl0) (sizeNamed f.ps)
+unfoldable pub regime_named : VtcrFields → DecodedVtcr
+regime_named f = regime_of f (granule_named f.tg0) (level_named f.sl0) (size_named f.ps)
 
 -- RES1 must be one and DS zero
-abbrev pub decodedFields : VtcrFields → DecodedVtcr
-decodedFields f = pick (eqb f.res1 1) (pick (eqb f.ds 0) (regimeNamed f) Nothing) Nothing
+abbrev pub decoded_fields : VtcrFields → DecodedVtcr
+decoded_fields f = pick (eqb f.res1 1) (pick (eqb f.ds 0) (regime_named f) Nothing) Nothing
 
-abbrev pub decodedVtcr : ℕ → DecodedVtcr
-decodedVtcr v = decodedFields (vtcrFieldsOf v)
+abbrev pub decoded_vtcr : ℕ → DecodedVtcr
+decoded_vtcr v = decoded_fields (vtcr_fields_of v)

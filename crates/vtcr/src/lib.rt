@@ -1,7 +1,7 @@
 // VTCR_EL2 (hv-s2's arm64.rs): the regime as the CPU is given it.
 ghost use Rattle.std.specs.Prelude.{◌<◌, ◌≡◌};
-ghost use Rattle.vtcr.specs.Fields.{vtcrFieldsOf, vtcrJoined};
-ghost use Rattle.vtcr.specs.Vtcr.{regimeNamed, vtcrOf, decodedVtcr};
+ghost use Rattle.vtcr.specs.Fields.{vtcr_fields_of, vtcr_joined};
+ghost use Rattle.vtcr.specs.Vtcr.{regime_named, vtcr_of, decoded_vtcr};
 
 use granule::{Granule, GranuleNamed, LevelNamed, StartLevel};
 use regime::Stage2Regime;
@@ -21,7 +21,7 @@ pub enum DecodedVtcr {
 
 // The VTCR_EL2 value of a regime: DS, HA and HD stay clear.
 pub fn vtcr_el2(regime: Stage2Regime, vmid_bits: VmidBits) -> Vtcr
-    ensures { result ≡ vtcrOf regime vmid_bits }
+    ensures { result ≡ vtcr_of regime vmid_bits }
 {
     if !regime.valid() {
         return Vtcr::Invalid;
@@ -53,7 +53,7 @@ pub fn baleen_vtcr_el2() -> Vtcr
 
 // The regime that a VTCR_EL2 value names. Bits that are neither RES1 nor DS nor a field are not read.
 pub fn decode_vtcr_el2(v: u64) -> DecodedVtcr
-    ensures { result ≡ decodedVtcr v }
+    ensures { result ≡ decoded_vtcr v }
 {
     let fields = VtcrFields::of(v);
     if fields.res1 != 1 {
@@ -68,7 +68,7 @@ pub fn decode_vtcr_el2(v: u64) -> DecodedVtcr
 // The regime that the fields name, if none is reserved and it is valid.
 fn regime_named(fields: VtcrFields) -> DecodedVtcr
     requires { fields.t0sz < 64 }
-    ensures { result ≡ regimeNamed fields }
+    ensures { result ≡ regime_named fields }
 {
     let GranuleNamed::Granule(granule) = Granule::from_tg0(fields.tg0) else {
         return DecodedVtcr::Nothing;
@@ -112,7 +112,7 @@ pub struct VtcrFields {
 
 impl VtcrFields {
     pub fn of(v: u64) -> VtcrFields
-        ensures { result ≡ vtcrFieldsOf v }
+        ensures { result ≡ vtcr_fields_of v }
     {
         VtcrFields {
             t0sz: v % 0x40,
@@ -130,7 +130,7 @@ impl VtcrFields {
 
     // A field that is too large for its place is cut to it.
     pub fn join(self) -> u64
-        ensures { result ≡ vtcrJoined self }
+        ensures { result ≡ vtcr_joined self }
     {
         self.t0sz % 0x40
             + self.sl0 % 4 * 0x40

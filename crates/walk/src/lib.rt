@@ -1,9 +1,9 @@
 // What a walk of the tables reaches (hv-s2's arm64.rs, `walk`).
 ghost use Rattle.std.specs.Prelude.{◌<◌, ◌≡◌};
-ghost use Rattle.decode.specs.Decoded.{outputOf};
-ghost use Rattle.layout.specs.Size.{block, outputLimit};
-ghost use Rattle.reach.specs.Reach.{toldOf};
-ghost use Rattle.walk.specs.Walk.{leafReach, reading, walkedFrom};
+ghost use Rattle.decode.specs.Decoded.{output_of};
+ghost use Rattle.layout.specs.Size.{block, output_limit};
+ghost use Rattle.reach.specs.Reach.{told_of};
+ghost use Rattle.walk.specs.Walk.{leaf_reach, reading, walked_from};
 
 use decode::DecodedLeaf;
 use descent::Stop;
@@ -13,7 +13,7 @@ use refusal::Verdict;
 
 // Row 1 alone.
 pub fn walk(arena: &[u64], tables: &[u64; Layout::TABLES], ipa: u64) -> Walked
-    ensures { toldOf result ≡ walkedFrom arena.now tables.now ipa }
+    ensures { told_of result ≡ walked_from arena.now tables.now ipa }
 {
     let verdict = lent_rows::arena_len(arena);
     match verdict {
@@ -39,9 +39,9 @@ fn reach_of(stop: Stop, ipa: u64) -> Reached
 }
 
 fn join(leaf: DecodedLeaf, offset: u64) -> Reached
-    requires leaf_bound { outputOf leaf < outputLimit }
+    requires leaf_bound { output_of leaf < output_limit }
     requires offset_lt_block { offset < block }
-    ensures { result ≡ leafReach offset leaf }
+    ensures { result ≡ leaf_reach offset leaf }
 {
     let DecodedLeaf::Leaf(decoded) = leaf else {
         return Reached::Nothing;

@@ -24,7 +24,7 @@ use denote.Struct.Declared.{Declared}
 use denote.Struct.Laws as LL
 use denote.Struct.Rest.{all_own, own_open, own_shut}
 use denote.Struct.Values.{Values}
-use Rattle.layout.specs.Size.{tableCount}
+use Rattle.layout.specs.Size.{table_count}
 use Rattle.walker.specs.declared.Walker.{Walker}
 use Rattle.walker.specs.contracts.Walker as T
 use Rattle.walker.proofs.Walker.TheLaws as T'
@@ -34,13 +34,13 @@ abbrev pub Words : Lft → RattleType
 Words κ = ShrSlice (named 0) κ u64
 
 abbrev pub Addresses : Lft → RattleType
-Addresses κ = ShrRef (named 1) κ (Array u64 tableCount)
+Addresses κ = ShrRef (named 1) κ (Array u64 table_count)
 
 abbrev pub words_val : Bor (List ℕ) → Val
 words_val s = slice_val s.ref_ptr (length s.now)
 
-abbrev pub addressesVal : Bor (List ℕ) → Val
-addressesVal t = vptr t.ptr.0 t.ptr.1
+abbrev pub addresses_val : Bor (List ℕ) → Val
+addresses_val t = vptr t.ptr.0 t.ptr.1
 
 -- the struct's type, its description and its laws, over the signature's lifetimes
 abbrev pub B : Lfts 2 → RattleType
@@ -57,12 +57,12 @@ held s t = record { words = s; tables = t }
 
 -- what the two fields own
 abbrev pub Fields : Lfts 2 → Bor (List ℕ) → Bor (List ℕ) → Fml
-Fields κs s t = owns (Words κs.0 ∷ Addresses κs.1.0 ∷ []) (s, (t, tt)) (words_val s ∷ [], (addressesVal t ∷ [], tt))
+Fields κs s t = owns (Words κs.0 ∷ Addresses κs.1.0 ∷ []) (s, (t, tt)) (words_val s ∷ [], (addresses_val t ∷ [], tt))
 
 -- the relation of a walker, from its fields'
 pub is_held : (κs : Lfts 2) (s t : Bor (List ℕ)) → Is (Words κs.0) s (words_val s ∷ [])
-    → Is (Addresses κs.1.0) t (addressesVal t ∷ []) → Is (B κs) (held s t) (T'.lowered (held s t) ∷ [])
-is_held κs s t p q = ((words_val s ∷ [], (addressesVal t ∷ [], tt)), (refl, (p, (q, tt))))
+    → Is (Addresses κs.1.0) t (addresses_val t ∷ []) → Is (B κs) (held s t) (T'.lowered (held s t) ∷ [])
+is_held κs s t p q = ((words_val s ∷ [], (addresses_val t ∷ [], tt)), (refl, (p, (q, tt))))
 
 module _ {M : Type 1} {𝓤 : Ura M} (𝓛 : Logic 𝓤) (κs : Lfts 2) where
   pub shuts : (s t : Bor (List ℕ)) → ent 𝓤 (sem 𝓛 (Fields κs s t)) (sem 𝓛 ((B κs).own_val (held s t) (T'.lowered (held s t) ∷ [])))

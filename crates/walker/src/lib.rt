@@ -1,8 +1,8 @@
 // The arena and the six addresses, kept together. The borrow checker covers no function over such a struct, so these are thin, and
 // the walk itself is `walk`'s.
 ghost use Rattle.std.specs.Prelude.{◌≡◌};
-ghost use Rattle.reach.specs.Reach.{toldOf};
-ghost use Rattle.walk.specs.Walk.{walkedFrom};
+ghost use Rattle.reach.specs.Reach.{told_of};
+ghost use Rattle.walk.specs.Walk.{walked_from};
 
 use layout::Layout;
 use reach::Walked;
@@ -24,7 +24,7 @@ impl<'a, 'b> Walker<'a, 'b> {
 
     // Row 1 alone.
     pub fn walk(self, ipa: u64) -> Walked
-        ensures { toldOf result ≡ walkedFrom self.entry.words.now self.entry.tables.now ipa }
+        ensures { told_of result ≡ walked_from self.entry.words.now self.entry.tables.now ipa }
     {
         walk::walk(self.words, self.tables, ipa)
     }
@@ -32,7 +32,7 @@ impl<'a, 'b> Walker<'a, 'b> {
 
 // A walker for one address: its parameters are plain, so the borrow checker covers its callers.
 pub fn walk(words: &[u64], tables: &[u64; Layout::TABLES], ipa: u64) -> Walked
-    ensures { toldOf result ≡ walkedFrom words.now tables.now ipa }
+    ensures { told_of result ≡ walked_from words.now tables.now ipa }
 {
     Walker::new(words, tables).walk(ipa)
 }

@@ -1,13 +1,13 @@
 -- The granted answer of an address, by document 01 ("Update"): by windows alone, with no word of a table in it.
 use Rattle.std.specs.Prelude.{ℕ, ◌+◌, ◌-◌, ◌/◌, Bool, false, ◌&&◌, List, [], ◌∷◌, map, leb, ltb, get_or}
-use Rattle.desc.specs.Words.{leafAccessXn}
+use Rattle.desc.specs.Words.{leaf_access_xn}
 use Rattle.desc.specs.declared.AccessXn.{AccessXn}
 use Rattle.fields.specs.Named.{pick, named}
 use Rattle.layout.specs.Size.{page, block}
-use Rattle.layout.specs.Window.{imageWindow, dataWindow, superWindow, devicesOf}
+use Rattle.layout.specs.Window.{image_window, data_window, super_window, devices_of}
 use Rattle.layout.specs.declared.Layout.{Layout}
 use Rattle.layout.specs.declared.Window.{Window}
-use Rattle.perm.specs.Perm.{permCode}
+use Rattle.perm.specs.Perm.{perm_code}
 use Rattle.perm.specs.declared.Perm.TheVariants.{Ro, Rw, Rx}
 use Rattle.reach.specs.declared.Reached.{Reached}
 use Rattle.reach.specs.declared.Reached.TheVariants.{At, Nothing}
@@ -23,42 +23,42 @@ abbrev pub region : Window → ℕ → (ℕ → ℕ) → Bool → Region
 region w size entry exempt = record { window = w; piece = size; entry = entry; exempt = exempt }
 
 -- Ro and executable, as 3 is
-abbrev pub imageRegion : Layout → Region
-imageRegion l = region (imageWindow l.guest_image_pa) block (λ p. permCode Rx) false
+abbrev pub image_region : Layout → Region
+image_region l = region (image_window l.guest_image_pa) block (λ p. perm_code Rx) false
 
 -- data pages and super blocks go by their maps, where no entry is 0; the exemption is the supers'
-abbrev pub dataRegion : Layout → List ℕ → Region
-dataRegion l base = region (dataWindow l) page (λ p. get_or base p 0) false
+abbrev pub data_region : Layout → List ℕ → Region
+data_region l base = region (data_window l) page (λ p. get_or base p 0) false
 
-abbrev pub superRegion : Layout → List ℕ → Region
-superRegion l sup = region (superWindow l) block (λ p. get_or sup p 0) l.sup_wx_exempt
+abbrev pub super_region : Layout → List ℕ → Region
+super_region l sup = region (super_window l) block (λ p. get_or sup p 0) l.sup_wx_exempt
 
 -- Rw and never, as 2 is
-abbrev pub deviceRegion : Window → Region
-deviceRegion w = region w block (λ p. permCode Rw) false
+abbrev pub device_region : Window → Region
+device_region w = region w block (λ p. perm_code Rw) false
 
-abbrev pub regionsOf : Layout → List ℕ → List ℕ → List Region
-regionsOf l base sup = imageRegion l ∷ dataRegion l base ∷ superRegion l sup ∷ map deviceRegion (devicesOf l)
+abbrev pub regions_of : Layout → List ℕ → List ℕ → List Region
+regions_of l base sup = image_region l ∷ data_region l base ∷ super_region l sup ∷ map device_region (devices_of l)
 
 abbrev pub contains : Window → ℕ → Bool
 contains w x = w.present && leb w.ipa x && ltb (x - w.ipa) w.span
 
-abbrev pub reachAt : ℕ → AccessXn → Reached
-reachAt pa a = At (record { pa = pa; perm = a.access; xn = a.xn })
+abbrev pub reach_at : ℕ → AccessXn → Reached
+reach_at pa a = At (record { pa = pa; perm = a.access; xn = a.xn })
 
 -- an output address by an entry: Ro (1, 3) or Rw (2), executable for 3 and, where exempt, for 2; nothing for 0
-abbrev pub byEntry : ℕ → Bool → ℕ → Reached
-byEntry pa exempt entry = named permCode (Ro ∷ Rw ∷ Rx ∷ []) (λ p. reachAt pa (leafAccessXn p exempt)) Nothing entry
+abbrev pub by_entry : ℕ → Bool → ℕ → Reached
+by_entry pa exempt entry = named perm_code (Ro ∷ Rw ∷ Rx ∷ []) (λ p. reach_at pa (leaf_access_xn p exempt)) Nothing entry
 
 -- the same offset from the output base, by the entry of the piece
-abbrev pub grantedIn : Region → ℕ → Reached
-grantedIn r x =
-    let away = x - r.window.ipa in byEntry (r.window.pa + away) r.exempt (r.entry (away / r.piece))
+abbrev pub granted_in : Region → ℕ → Reached
+granted_in r x =
+    let away = x - r.window.ipa in by_entry (r.window.pa + away) r.exempt (r.entry (away / r.piece))
 
 -- nothing elsewhere
-unfoldable pub grantedBy : List Region → ℕ → Reached
-grantedBy [] x = Nothing
-grantedBy (r ∷ rs) x = pick (contains r.window x) (grantedIn r x) (grantedBy rs x)
+unfoldable pub granted_by : List Region → ℕ → Reached
+granted_by [] x = Nothing
+granted_by (r ∷ rs) x = pick (contains r.window x) (granted_in r x) (granted_by rs x)
 
 abbrev pub granted : Layout → List ℕ → List ℕ → ℕ → Reached
-granted l base sup x = grantedBy (regionsOf l base sup) x
+granted l base sup x = granted_by (regions_of l base sup) x

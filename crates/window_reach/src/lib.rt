@@ -2,13 +2,13 @@
 ghost use Rattle.std.specs.Prelude.{◌+◌, ◌-◌, ◌/◌, ◌≤◌, ◌<◌, true, map, ◌≡◌, get_or};
 ghost use Rattle.accepted_facts.specs.Accepted.{Within};
 ghost use Rattle.accepted_facts.specs.Guarded.{Guarded};
-ghost use Rattle.layout.specs.Size.{boardLimit};
-ghost use Rattle.reach.specs.Reach.{toldOf};
+ghost use Rattle.layout.specs.Size.{board_limit};
+ghost use Rattle.reach.specs.Reach.{told_of};
 ghost use Rattle.refusal.specs.All.{All};
 ghost use Rattle.refusal.specs.Table.{first};
 ghost use Rattle.refusal.specs.Told.{after};
-ghost use Rattle.rows.specs.Rows.{guardRows};
-ghost use Rattle.window_reach.specs.Granted.{deviceRegion, contains, byEntry, grantedBy, granted, reachAt};
+ghost use Rattle.rows.specs.Rows.{guard_rows};
+ghost use Rattle.window_reach.specs.Granted.{device_region, contains, by_entry, granted_by, granted, reach_at};
 
 use desc::AccessXn;
 use layout::{Layout, SuperWindow, Window};
@@ -18,7 +18,7 @@ use refusal::Verdict;
 
 // Rows 2 to 14 come first: the sums below serve accepted layouts alone.
 pub fn window_reach(base: &[u8], sup: &[u8], l: Layout, ipa: u64) -> Walked
-    ensures { toldOf result ≡ after (first (guardRows boardLimit base.now sup.now l))
+    ensures { told_of result ≡ after (first (guard_rows board_limit base.now sup.now l))
         (granted l base.now sup.now ipa) }
 {
     let verdict = guard::guard_maps_at(Layout::BOARD_LIMIT, base, sup, l);
@@ -29,7 +29,7 @@ pub fn window_reach(base: &[u8], sup: &[u8], l: Layout, ipa: u64) -> Walked
 }
 
 fn reach_in(base: &[u8], sup: &[u8], l: Layout, ipa: u64) -> Reached
-    requires { Guarded boardLimit base.now sup.now l }
+    requires { Guarded board_limit base.now sup.now l }
     ensures { result ≡ granted l base.now sup.now ipa }
 {
     // After row 8 the super window is counted.
@@ -55,8 +55,8 @@ fn reach_in(base: &[u8], sup: &[u8], l: Layout, ipa: u64) -> Reached
 }
 
 fn reach_device(ds: [Window; Layout::DEVICES], ipa: u64) -> Reached
-    requires { All (λ w. w.present ≡ true → Within boardLimit w) ds }
-    ensures { result ≡ grantedBy (map deviceRegion ds) ipa }
+    requires { All (λ w. w.present ≡ true → Within board_limit w) ds }
+    ensures { result ≡ granted_by (map device_region ds) ipa }
 {
     for i in 0..Layout::DEVICES {
         let w = ds[i];
@@ -91,15 +91,15 @@ fn entry_of(map: &[u8], w: Window, ipa: u64, piece: u64) -> u8
 // The same offset from the output base.
 fn grant(w: Window, ipa: u64, exempt: bool, entry: u8) -> Reached
     requires ipa_value { contains w ipa ≡ true }
-    requires span_bound { w.pa + w.span ≤ boardLimit }
-    ensures { result ≡ byEntry (w.pa + (ipa - w.ipa)) exempt entry }
+    requires span_bound { w.pa + w.span ≤ board_limit }
+    ensures { result ≡ by_entry (w.pa + (ipa - w.ipa)) exempt entry }
 {
     by_entry(w.pa + (ipa - w.ipa), exempt, entry)
 }
 
 // An output address by an entry of a leaf map.
 pub fn by_entry(pa: u64, exempt: bool, entry: u8) -> Reached
-    ensures { result ≡ byEntry pa exempt entry }
+    ensures { result ≡ by_entry pa exempt entry }
 {
     match entry {
         1 => reach_at(pa, desc::leaf_access_xn(Perm::Ro, exempt)),
@@ -110,7 +110,7 @@ pub fn by_entry(pa: u64, exempt: bool, entry: u8) -> Reached
 }
 
 fn reach_at(pa: u64, a: AccessXn) -> Reached
-    ensures { result ≡ reachAt pa a }
+    ensures { result ≡ reach_at pa a }
 {
     let perm = a.access;
     Reached::At(Reach { pa, perm, xn: a.xn })

@@ -1,16 +1,16 @@
 // Rows 9 to 12 of document 01's table, of the windows of a layout: each by itself here, pair by pair in `apart` (hv-s2's arm64.rs).
 ghost use Rattle.std.specs.Prelude.{◌≡◌};
-ghost use Rattle.layout.specs.Window.{windowsWith};
-ghost use Rattle.refusal.specs.Outcome.{outcomeOf};
+ghost use Rattle.layout.specs.Window.{windows_with};
+ghost use Rattle.refusal.specs.Outcome.{outcome_of};
 ghost use Rattle.refusal.specs.Table.{first, each};
-ghost use Rattle.rows.specs.Rows.{row9, row10, windowRows};
+ghost use Rattle.rows.specs.Rows.{row9, row10, window_rows};
 
 use layout::{Layout, Window};
 use refusal::{Refusal, Verdict};
 
 // The four windows, with the super window that row 8 let by.
 pub fn windows_of(l: Layout, sup: Window) -> [Window; Layout::WINDOWS]
-    ensures { result ≡ windowsWith l sup }
+    ensures { result ≡ windows_with l sup }
 {
     let image = l.guest_image_pa;
     [image.window(), l.data_window(), sup, l.device_window()]
@@ -18,7 +18,7 @@ pub fn windows_of(l: Layout, sup: Window) -> [Window; Layout::WINDOWS]
 
 // Rows 9 and 10, each over all windows, then 11 and 12, pair by pair.
 pub fn windows(limit: u64, ws: [Window; Layout::WINDOWS]) -> Verdict
-    ensures { outcomeOf result ≡ first (windowRows limit ws) }
+    ensures { outcome_of result ≡ first (window_rows limit ws) }
 {
     let inside = all_inside(ws);
     let Verdict::Accepted = inside else {
@@ -32,7 +32,7 @@ pub fn windows(limit: u64, ws: [Window; Layout::WINDOWS]) -> Verdict
 }
 
 fn all_inside(ws: [Window; Layout::WINDOWS]) -> Verdict
-    ensures { outcomeOf result ≡ first (each row9 ws) }
+    ensures { outcome_of result ≡ first (each row9 ws) }
 {
     for i in 0..Layout::WINDOWS {
         let verdict = inside(ws[i]);
@@ -45,7 +45,7 @@ fn all_inside(ws: [Window; Layout::WINDOWS]) -> Verdict
 
 // Row 9. A window has one level 1 entry, and past its end the index of level 2 wraps.
 fn inside(w: Window) -> Verdict
-    ensures { outcomeOf result ≡ first (row9 w) }
+    ensures { outcome_of result ≡ first (row9 w) }
 {
     if !w.present {
         return Verdict::Accepted;
@@ -64,7 +64,7 @@ fn inside(w: Window) -> Verdict
 }
 
 fn all_reached(limit: u64, ws: [Window; Layout::WINDOWS]) -> Verdict
-    ensures { outcomeOf result ≡ first (each (row10 limit) ws) }
+    ensures { outcome_of result ≡ first (each (row10 limit) ws) }
 {
     for i in 0..Layout::WINDOWS {
         let verdict = reached(limit, ws[i]);
@@ -77,7 +77,7 @@ fn all_reached(limit: u64, ws: [Window; Layout::WINDOWS]) -> Verdict
 
 // Row 10, without the sum, which can leave 64 bits.
 fn reached(limit: u64, w: Window) -> Verdict
-    ensures { outcomeOf result ≡ first (row10 limit w) }
+    ensures { outcome_of result ≡ first (row10 limit w) }
 {
     if !w.present {
         return Verdict::Accepted;

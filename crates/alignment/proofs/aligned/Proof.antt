@@ -8,9 +8,9 @@ returns : tie.Need-returns
 unfolding row6 first
 returns c = simp c.if1.true
 
-returns-2 : tie.Need-returns-2
+returns_2 : tie.Need-returns-2
 unfolding row6 first
-returns-2 c = simp c.if1.false
+returns_2 c = simp c.if1.false
 
-pub aligned-spec : {M : Type 1} → statement M
-aligned-spec = tie.close (tie.spec returns returns-2)
+pub aligned_spec : {M : Type 1} → statement M
+aligned_spec = tie.close (tie.spec returns returns_2)

@@ -6,27 +6,27 @@ use Rattle.alignment.proofs.all_aligned.Tie as tie
 use Rattle.refusal.specs.Table.{first, each}
 use Rattle.rows.specs.Rows.{row6}
 
-checks-requires : tie.Need-checks-requires
-checks-requires c κs = search rules
+checks_requires : tie.Need-checks-requires
+checks_requires c κs = search rules
 
-none-fails-requires : tie.Need-none-fails-requires
-none-fails-requires c κs = search rules
+none_fails_requires : tie.Need-none-fails-requires
+none_fails_requires c κs = search rules
 
 returns : tie.Need-returns
 returns c =
     let v = c.before in
     v.none-fails.ensures c.if1.true ∙ ap (λ cs. first (each row6 cs)) v.before.checks.ensures
 
-checks-requires-2 : tie.Need-checks-requires-2
-checks-requires-2 c κs = search rules
+checks_requires_2 : tie.Need-checks-requires-2
+checks_requires_2 c κs = search rules
 
-first-unaligned-requires : tie.Need-first-unaligned-requires
-first-unaligned-requires c κs = search rules
+first_unaligned_requires : tie.Need-first-unaligned-requires
+first_unaligned_requires c κs = search rules
 
-returns-2 : tie.Need-returns-2
-returns-2 c = c.first-unaligned.ensures ∙ ap (λ cs. first (each row6 cs)) c.before.checks2.ensures
+returns_2 : tie.Need-returns-2
+returns_2 c = c.first-unaligned.ensures ∙ ap (λ cs. first (each row6 cs)) c.before.checks2.ensures
 
-pub all-aligned-spec : {M : Type 1} → statement M
-all-aligned-spec =
+pub all_aligned_spec : {M : Type 1} → statement M
+all_aligned_spec =
     tie.close
-    (tie.spec checks-requires none-fails-requires returns checks-requires-2 first-unaligned-requires returns-2)
+    (tie.spec checks_requires none_fails_requires returns checks_requires_2 first_unaligned_requires returns_2)

@@ -6,78 +6,78 @@ use lib.ListN.{length, drop}
 use borrow.Author.Rules.{rules}
 use Rattle.alignment.proofs.all_nameable.Statement.{statement}
 use Rattle.alignment.proofs.all_nameable.Tie as tie
-use Rattle.layout.specs.Layout.{tableIf}
-use Rattle.refusal.proofs.Loop.{refuses, passes, ends, each-walk}
+use Rattle.layout.specs.Layout.{table_if}
+use Rattle.refusal.proofs.Loop.{refuses, passes, ends, each_walk}
 use Rattle.refusal.specs.Table.{first, each}
 use Rattle.rows.specs.Rows.{row7}
 
-abbrev invariant-loop : tie.invariant-loop
-invariant-loop limit ts i₀ i = first (each (row7 limit) ts) ≡ first (each (row7 limit) (drop i ts))
+abbrev invariant_loop : tie.invariant-loop
+invariant_loop limit ts i₀ i = first (each (row7 limit) ts) ≡ first (each (row7 limit) (drop i ts))
 
-abbrev decreases-loop : tie.decreases-loop
-decreases-loop limit ts i₀ i = length ts - i
+abbrev decreases_loop : tie.decreases-loop
+decreases_loop limit ts i₀ i = length ts - i
 
-loop-holds : tie.Need-loop-init invariant-loop decreases-loop
-loop-holds c = refl
+loop_holds : tie.Need-loop-init invariant_loop decreases_loop
+loop_holds c = refl
 
-mul-nameable : tie.Need-overflow-mul-nameable invariant-loop decreases-loop
-mul-nameable c = search rules
+mul_nameable : tie.Need-overflow-mul-nameable invariant_loop decreases_loop
+mul_nameable c = search rules
 
-array-copy-out-nameable : tie.Need-array-copy-out-nameable invariant-loop decreases-loop
-array-copy-out-nameable c = search rules
+array_copy_out_nameable : tie.Need-array-copy-out-nameable invariant_loop decreases_loop
+array_copy_out_nameable c = search rules
 
-nameable-requires : tie.Need-nameable-requires invariant-loop decreases-loop
-nameable-requires c κs = search rules
+nameable_requires : tie.Need-nameable-requires invariant_loop decreases_loop
+nameable_requires c κs = search rules
 
-enum_told : tie.Need-enum-told invariant-loop decreases-loop
+enum_told : tie.Need-enum-told invariant_loop decreases_loop
 enum_told c = search rules
 
-enum-told-2 : tie.Need-enum-told-2 invariant-loop decreases-loop
-enum-told-2 c = search rules
+enum_told_2 : tie.Need-enum-told-2 invariant_loop decreases_loop
+enum_told_2 c = search rules
 
-returns : tie.Need-returns invariant-loop decreases-loop
+returns : tie.Need-returns invariant_loop decreases_loop
 returns c =
     let v = c.before.before in
     let h = v.before.before.before in
     let a = h.before in
-    refuses (each-walk a.args.t2 (tableIf 0 false 0) a.well-formed.1.0.1.0.1 (row7 a.args.limit)) h.loop.i h.loop.invariant
+    refuses (each_walk a.args.t2 (table_if 0 false 0) a.well-formed.1.0.1.0.1 (row7 a.args.limit)) h.loop.i h.loop.invariant
     v.before.before.loop-test.true c.enum-told2.given.1 v.nameable.ensures
 
-add-i : tie.Need-overflow-add-i invariant-loop decreases-loop
-add-i c = search rules
+add_i : tie.Need-overflow-add-i invariant_loop decreases_loop
+add_i c = search rules
 
-loop-less : tie.Need-loop-smaller invariant-loop decreases-loop
-loop-less c = search rules
+loop_less : tie.Need-loop-smaller invariant_loop decreases_loop
+loop_less c = search rules
 
-loop-again : tie.Need-loop-preserved invariant-loop decreases-loop
-loop-again c =
+loop_again : tie.Need-loop-preserved invariant_loop decreases_loop
+loop_again c =
     let v = c.before.before in
     let h = v.before.before.before in
     let a = h.before in
-    passes (each-walk a.args.t2 (tableIf 0 false 0) a.well-formed.1.0.1.0.1 (row7 a.args.limit)) h.loop.i h.loop.invariant
+    passes (each_walk a.args.t2 (table_if 0 false 0) a.well-formed.1.0.1.0.1 (row7 a.args.limit)) h.loop.i h.loop.invariant
     v.before.before.loop-test.true c.enum_told.given.1 v.nameable.ensures
 
-returns-2 : tie.Need-returns-2 invariant-loop decreases-loop
-returns-2 c =
+returns_2 : tie.Need-returns-2 invariant_loop decreases_loop
+returns_2 c =
     let h = c.before in
     let a = h.before in
-    ends (each-walk a.args.t2 (tableIf 0 false 0) a.well-formed.1.0.1.0.1 (row7 a.args.limit)) h.loop.i h.loop.invariant
+    ends (each_walk a.args.t2 (table_if 0 false 0) a.well-formed.1.0.1.0.1 (row7 a.args.limit)) h.loop.i h.loop.invariant
     c.loop-test.false
 
-pub all-nameable-spec : {M : Type 1} → statement M
-all-nameable-spec =
+pub all_nameable_spec : {M : Type 1} → statement M
+all_nameable_spec =
     tie.close
     (tie.spec
-    invariant-loop
-    decreases-loop
-    loop-holds
-    mul-nameable
-    array-copy-out-nameable
-    nameable-requires
+    invariant_loop
+    decreases_loop
+    loop_holds
+    mul_nameable
+    array_copy_out_nameable
+    nameable_requires
     enum_told
-    enum-told-2
+    enum_told_2
     returns
-    add-i
-    loop-less
-    loop-again
-    returns-2)
+    add_i
+    loop_less
+    loop_again
+    returns_2)

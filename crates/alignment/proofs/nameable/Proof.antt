@@ -9,15 +9,15 @@ returns : tie.Need-returns
 unfolding row7 first
 returns c = simp (not-true c.before.before.args.t.present c.if1.true)
 
-returns-2 : tie.Need-returns-2
+returns_2 : tie.Need-returns-2
 unfolding row7 first
-returns-2 c =
+returns_2 c =
     let there = c.before.before in
     simp (not-false there.before.before.args.t.present there.if1.false, le-leb _ _ c.if2.true)
 
-returns-3 : tie.Need-returns-3
+returns_3 : tie.Need-returns-3
 unfolding row7 first
-returns-3 c =
+returns_3 c =
     let below = c.before.before in
     let there = below.before.before in
     simp (
@@ -26,9 +26,9 @@ returns-3 c =
       ne_eqb _ _ c.if3.true,
     )
 
-returns-4 : tie.Need-returns-4
+returns_4 : tie.Need-returns-4
 unfolding row7 first
-returns-4 c =
+returns_4 c =
     let below = c.before.before in
     let there = below.before.before in
     simp (
@@ -37,5 +37,5 @@ returns-4 c =
       eq-eqb _ _ c.if3.false,
     )
 
-pub nameable-spec : {M : Type 1} → statement M
-nameable-spec = tie.close (tie.spec returns returns-2 returns-3 returns-4)
+pub nameable_spec : {M : Type 1} → statement M
+nameable_spec = tie.close (tie.spec returns returns_2 returns_3 returns_4)

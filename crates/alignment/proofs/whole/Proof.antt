@@ -9,9 +9,9 @@ returns : tie.Need-returns
 unfolding row4 first
 returns c = simp (ne_eqb _ _ c.if1.true)
 
-returns-2 : tie.Need-returns-2
+returns_2 : tie.Need-returns-2
 unfolding row4 first
-returns-2 c = simp (eq-eqb _ _ c.if1.false)
+returns_2 c = simp (eq-eqb _ _ c.if1.false)
 
-pub whole-spec : {M : Type 1} → statement M
-whole-spec = tie.close (tie.spec returns returns-2)
+pub whole_spec : {M : Type 1} → statement M
+whole_spec = tie.close (tie.spec returns returns_2)

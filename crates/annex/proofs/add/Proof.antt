@@ -8,20 +8,20 @@ use borrow.Author.Rules.{rules}
 use Rattle.annex.proofs.Writing.{Longer, longer, one_line, closes}
 use Rattle.annex.specs.Writing.{resumed, Written, line_at, ProperBegun}
 use Rattle.annex.specs.declared.Begun.{Begun}
-use Rattle.runs.specs.Page.{lineLength, page_of}
+use Rattle.runs.specs.Page.{line_length, page_of}
 use Rattle.runs.specs.Runs.{before}
 use Rattle.runs.specs.declared.Run.{Run}
 use Rattle.annex.proofs.add.Statement.{statement}
 use Rattle.annex.proofs.add.Tie as tie
 
-lengthened-requires : tie.Need-lengthened-requires
-lengthened-requires c κs = search rules
+lengthened_requires : tie.Need-lengthened-requires
+lengthened_requires c κs = search rules
 
 enum_told : tie.Need-enum-told
 enum_told c = search rules
 
-enum-told-2 : tie.Need-enum-told-2
-enum-told-2 c = search rules
+enum_told_2 : tie.Need-enum-told-2
+enum_told_2 c = search rules
 
 returns : tie.Need-returns
 returns c =
@@ -33,21 +33,21 @@ returns c =
     (longer a.done.begun a.piece start.requires.1.1 start.requires.0) in (
       subst ProperBegun (sym e) is.0,
       (
-        le-add_right a.done.at lineLength,
+        le-add_right a.done.at line_length,
         λ rs text old w.
             subst (λ (b : Begun). Written text old (page_of (resumed b rs)) a.done.at a.page.now) (sym e)
             (subst (λ (ts : List Run). Written text old (page_of ts) a.done.at a.page.now) (is.1 rs) w),
       ),
     )
 
-close-requires : tie.Need-close-requires
-close-requires c κs = search rules
+close_requires : tie.Need-close-requires
+close_requires c κs = search rules
 
 same_length : tie.Need-same-length
 same_length c = search rules
 
-returns-2 : tie.Need-returns-2
-returns-2 c =
+returns_2 : tie.Need-returns-2
+returns_2 c =
     let d = c.before.before in
     let m = d.before.before in
     let l = m.before.before in
@@ -71,10 +71,10 @@ pub add_spec : {M : Type 1} → statement M
 add_spec =
     tie.close
     (tie.spec
-    lengthened-requires
+    lengthened_requires
     enum_told
-    enum-told-2
+    enum_told_2
     returns
-    close-requires
+    close_requires
     same_length
-    returns-2)
+    returns_2)

@@ -7,12 +7,12 @@ use Rattle.annex.proofs.has_slot.Tie as tie
 returns : tie.Need-returns
 returns c = simp (not-true c.before.before.args.w.present c.if1.true)
 
-l1-index-requires : tie.Need-l1-index-requires
-l1-index-requires c κs = search rules
+l1_index_requires : tie.Need-l1-index-requires
+l1_index_requires c κs = search rules
 
-returns-2 : tie.Need-returns-2
-returns-2 c =
+returns_2 : tie.Need-returns-2
+returns_2 c =
     let e = c.before in rw (not-false e.before.before.args.w.present e.if1.false, c.l1-index.ensures)
 
-pub has-slot-spec : {M : Type 1} → statement M
-has-slot-spec = tie.close (tie.spec returns l1-index-requires returns-2)
+pub has_slot_spec : {M : Type 1} → statement M
+has_slot_spec = tie.close (tie.spec returns l1_index_requires returns_2)

@@ -13,11 +13,11 @@ use Rattle.annex.proofs.lower_slot.Tie as tie
 returns : tie.Need-returns
 returns c = simp (not-true c.before.before.args.w.present c.if1.true)
 
-l1-index-requires : tie.Need-l1-index-requires
-l1-index-requires c κs = search rules
+l1_index_requires : tie.Need-l1-index-requires
+l1_index_requires c κs = search rules
 
-returns-2 : tie.Need-returns-2
-returns-2 c =
+returns_2 : tie.Need-returns-2
+returns_2 c =
     let l = c.before in
     let e = l.before in
     let a = e.before.before.args in
@@ -25,8 +25,8 @@ returns-2 c =
     let less : slot a.w < a.from = omega (arith, l.l1-index.ensures, c.if2.true) in
     rw (here, lt-leb _ _ less) refl
 
-returns-3 : tie.Need-returns-3
-returns-3 c =
+returns_3 : tie.Need-returns-3
+returns_3 c =
     let l = c.before.before in
     let e = l.before in
     let a = e.before.before.args in
@@ -35,8 +35,8 @@ returns-3 c =
     let past : a.next ≤ slot a.w = omega (arith, l.l1-index.ensures, c.if3.true) in
     rw (here, le-leb _ _ more, le-ltb _ _ past) refl
 
-returns-4 : tie.Need-returns-4
-returns-4 c =
+returns_4 : tie.Need-returns-4
+returns_4 c =
     let l = c.before.before in
     let e = l.before in
     let a = e.before.before.args in
@@ -45,5 +45,5 @@ returns-4 c =
     let less : slot a.w < a.next = omega (arith, l.l1-index.ensures, c.if3.false) in
     rw (here, le-leb _ _ more, lt-ltb _ _ less) l.l1-index.ensures
 
-pub lower-slot-spec : {M : Type 1} → statement M
-lower-slot-spec = tie.close (tie.spec returns l1-index-requires returns-2 returns-3 returns-4)
+pub lower_slot_spec : {M : Type 1} → statement M
+lower_slot_spec = tie.close (tie.spec returns l1_index_requires returns_2 returns_3 returns_4)

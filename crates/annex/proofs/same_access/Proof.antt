@@ -5,7 +5,7 @@ use lib.Dec.{eqb}
 use borrow.Author.Rules.{rules}
 use borrow.Author.Tests.{eq-eqb, ne_eqb}
 use Rattle.fields.specs.Numbers.{bit}
-use Rattle.perm.specs.Perm.{permCode}
+use Rattle.perm.specs.Perm.{perm_code}
 use Rattle.annex.proofs.same_access.Statement.{statement}
 use Rattle.annex.proofs.same_access.Tie as tie
 
@@ -15,11 +15,11 @@ same_bits true false = refl
 same_bits false true = refl
 same_bits false false = refl
 
-code-requires : tie.Need-code-requires
-code-requires c κs = search rules
+code_requires : tie.Need-code-requires
+code_requires c κs = search rules
 
-code-requires-2 : tie.Need-code-requires-2
-code-requires-2 c κs = search rules
+code_requires_2 : tie.Need-code-requires-2
+code_requires_2 c κs = search rules
 
 returns : tie.Need-returns
 returns c =
@@ -29,8 +29,8 @@ returns c =
     sym (ap (λ b. b && eqb (bit a.run.xn) (bit a.next.xn))
     (ne_eqb _ _ (λ e. c.if1.true (f.code.ensures ∙ e ∙ sym s.code2.ensures))))
 
-returns-2 : tie.Need-returns-2
-returns-2 c =
+returns_2 : tie.Need-returns-2
+returns_2 c =
     let e = c.before.before in
     let s = e.before in
     let f = s.before in
@@ -39,5 +39,5 @@ returns-2 c =
     ∙ sym (ap (λ b. b && eqb (bit a.run.xn) (bit a.next.xn))
     (eq-eqb _ _ (sym f.code.ensures ∙ e.if1.false ∙ s.code2.ensures)))
 
-pub same-access-spec : {M : Type 1} → statement M
-same-access-spec = tie.close (tie.spec code-requires code-requires-2 returns returns-2)
+pub same_access_spec : {M : Type 1} → statement M
+same_access_spec = tie.close (tie.spec code_requires code_requires_2 returns returns_2)

@@ -4,26 +4,26 @@ use mathlib.Core.List.{List}
 use mathlib.Core.Path.{sym, ap, subst, ◌∙◌}
 use native.Mathlib.Omega.{arith}
 use borrow.Author.Rules.{rules}
-use Rattle.annex.specs.Writing.{resumed, Written, pieceBefore}
+use Rattle.annex.specs.Writing.{resumed, Written, piece_before}
 use Rattle.runs.specs.Page.{page_of}
 use Rattle.runs.specs.declared.Run.{Run}
 use Rattle.annex.proofs.write_piece.Statement.{statement}
 use Rattle.annex.proofs.write_piece.Tie as tie
 
-by-entry-requires : tie.Need-by-entry-requires
-by-entry-requires c κs = search rules
+by_entry_requires : tie.Need-by-entry-requires
+by_entry_requires c κs = search rules
 
-enum-known-reached : tie.Need-enum-known-reached
-enum-known-reached c = search rules
+enum_known_reached : tie.Need-enum-known-reached
+enum_known_reached c = search rules
 
-sub-t13 : tie.Need-overflow-sub-t13
-sub-t13 c = search rules
+sub_t13 : tie.Need-overflow-sub-t13
+sub_t13 c = search rules
 
-add-t14 : tie.Need-overflow-add-t14
-add-t14 c = search rules
+add_t14 : tie.Need-overflow-add-t14
+add_t14 c = search rules
 
-add-requires : tie.Need-add-requires
-add-requires c κs = search rules
+add_requires : tie.Need-add-requires
+add_requires c κs = search rules
 
 enum_told : tie.Need-enum-told
 enum_told c = search rules
@@ -44,11 +44,11 @@ returns c =
       λ rs text old w.
           d.add.ensures.1.1 rs text old
           (subst (λ (ts : List Run). Written text old (page_of (resumed a.done.begun ts)) a.done.at a.page.now)
-          (ap (λ reached. pieceBefore a.ipa last reached rs) says) w),
+          (ap (λ reached. piece_before a.ipa last reached rs) says) w),
     )
 
-returns-2 : tie.Need-returns-2
-returns-2 c =
+returns_2 : tie.Need-returns-2
+returns_2 c =
     let e = c.before.before in
     let start = e.before.before in
     let a = start.args in
@@ -57,19 +57,19 @@ returns-2 c =
       record { few = omega (arith, start.requires.1.1.few); proper = start.requires.1.1.proper },
       λ rs text old w.
           subst (λ (ts : List Run). Written text old (page_of (resumed a.done.begun ts)) a.done.at a.page.now)
-          (ap (λ reached. pieceBefore a.ipa last reached rs) says) w,
+          (ap (λ reached. piece_before a.ipa last reached rs) says) w,
     )
 
-pub write-piece-spec : {M : Type 1} → statement M
-write-piece-spec =
+pub write_piece_spec : {M : Type 1} → statement M
+write_piece_spec =
     tie.close
     (tie.spec
-    by-entry-requires
-    enum-known-reached
-    sub-t13
-    add-t14
-    add-requires
+    by_entry_requires
+    enum_known_reached
+    sub_t13
+    add_t14
+    add_requires
     enum_told
     same_length
     returns
-    returns-2)
+    returns_2)

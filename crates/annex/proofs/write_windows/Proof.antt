@@ -4,35 +4,35 @@ use mathlib.Core.List.{List, []}
 use mathlib.Core.Path.{◌≡◌, sym, ap, ap₂, subst, ◌∙◌}
 use native.Mathlib.Omega.{arith}
 use borrow.Author.Rules.{rules}
-use Rattle.annex.proofs.Slots.{past-slots}
-use Rattle.annex.proofs.Writing.{with-bytes, with-runs, one_line, none_yet, finishes}
-use Rattle.annex.specs.Annex.{addressCount}
-use Rattle.annex.specs.Windows.{grantedOver}
-use Rattle.annex.specs.Writing.{begunLength, Written, line_at}
-use Rattle.layout.specs.Size.{inputLimit}
-use Rattle.runs.specs.Page.{lineLength, lastLine, page_of}
-use Rattle.runs.specs.Runs.{runsFrom}
+use Rattle.annex.proofs.Slots.{past_slots}
+use Rattle.annex.proofs.Writing.{with_bytes, with_runs, one_line, none_yet, finishes}
+use Rattle.annex.specs.Annex.{address_count}
+use Rattle.annex.specs.Windows.{granted_over}
+use Rattle.annex.specs.Writing.{begun_length, Written, line_at}
+use Rattle.layout.specs.Size.{input_limit}
+use Rattle.runs.specs.Page.{line_length, last_line, page_of}
+use Rattle.runs.specs.Runs.{runs_from}
 use Rattle.text.specs.Front.{put_at}
 use Rattle.annex.proofs.write_windows.Statement.{statement}
 use Rattle.annex.proofs.write_windows.Tie as tie
 
-write-slots-requires : tie.Need-write-slots-requires
-write-slots-requires c κs = search rules
+write_slots_requires : tie.Need-write-slots-requires
+write_slots_requires c κs = search rules
 
-close-requires : tie.Need-close-requires
-close-requires c κs = search rules
+close_requires : tie.Need-close-requires
+close_requires c κs = search rules
 
-last-line-requires : tie.Need-last-line-requires
-last-line-requires c κs = search rules
+last_line_requires : tie.Need-last-line-requires
+last_line_requires c κs = search rules
 
-slice-aggregate-put : tie.Need-slice-aggregate-put
-slice-aggregate-put c = search rules
+slice_aggregate_put : tie.Need-slice-aggregate-put
+slice_aggregate_put c = search rules
 
-put-requires : tie.Need-put-requires
-put-requires c κs = search rules
+put_requires : tie.Need-put-requires
+put_requires c κs = search rules
 
-add-result : tie.Need-overflow-add-result
-add-result c =
+add_result : tie.Need-overflow-add-result
+add_result c =
     let k = c.before.before.before.before.before.before.before.before in
     let d = k.before.before.before.before in
     omega (arith, k.close.ensures.0, d.write-slots.ensures.0.few, one_line d.write-slots.result.begun)
@@ -48,31 +48,31 @@ returns c =
     let d = k.before.before.before.before in
     let start = d.before.before.before.before.before in
     let a = start.args in
-    let f = grantedOver a.base.now a.sup.now a.exempt a.ws in
-    let text = page_of (runsFrom f 0 addressCount) in
+    let f = granted_over a.base.now a.sup.now a.exempt a.ws in
+    let text = page_of (runs_from f 0 address_count) in
     let old = a.page.now in
     let done = d.write-slots.result in
-    let n = addressCount - inputLimit in
+    let n = address_count - input_limit in
     let all = d.write-slots.ensures.1 n text old (none_yet text old) in
-    let gone = with-runs done.begun (past-slots a.base.now a.sup.now a.exempt a.ws start.requires n) all in
+    let gone = with_runs done.begun (past_slots a.base.now a.sup.now a.exempt a.ws start.requires n) all in
     let closed = finishes text old done.begun d.write-slots.new.0 done.at gone in
     let left = line_at done.begun done.at d.write-slots.new.0 in
-    let bytes : p.put.new.1.0 ≡ put_at lastLine left (done.at + begunLength done.begun) =
+    let bytes : p.put.new.1.0 ≡ put_at last_line left (done.at + begun_length done.begun) =
     p.put.ensures
     ∙ ap₂ (λ (t b : List ℕ). put_at t b k.close.result) l.last_line.ensures k.close.ensures.1
-    ∙ ap (put_at lastLine left) k.close.ensures.0 in
-    subst (λ (e : ℕ). Written text old [] (e + lineLength) p.put.new.1.0) (sym k.close.ensures.0)
-    (with-bytes (sym bytes) closed)
+    ∙ ap (put_at last_line left) k.close.ensures.0 in
+    subst (λ (e : ℕ). Written text old [] (e + line_length) p.put.new.1.0) (sym k.close.ensures.0)
+    (with_bytes (sym bytes) closed)
 
-pub write-windows-spec : {M : Type 1} → statement M
-write-windows-spec =
+pub write_windows_spec : {M : Type 1} → statement M
+write_windows_spec =
     tie.close
     (tie.spec
-    write-slots-requires
-    close-requires
-    last-line-requires
-    slice-aggregate-put
-    put-requires
-    add-result
+    write_slots_requires
+    close_requires
+    last_line_requires
+    slice_aggregate_put
+    put_requires
+    add_result
     same_length
     returns)

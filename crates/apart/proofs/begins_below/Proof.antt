@@ -24,8 +24,8 @@ returns c =
     let a = c.before.before.args in
     let h : a.pa < a.w.pa + a.w.span = omega arith in sym (lt-ltb _ _ h)
 
-returns-2 : tie.Need-returns-2
-returns-2 c = same _ _ _ c.before.before.if1.false
+returns_2 : tie.Need-returns-2
+returns_2 c = same _ _ _ c.before.before.if1.false
 
-pub begins-below-spec : {M : Type 1} → statement M
-begins-below-spec = tie.close (tie.spec returns returns-2)
+pub begins_below_spec : {M : Type 1} → statement M
+begins_below_spec = tie.close (tie.spec returns returns_2)

@@ -3,17 +3,17 @@ use borrow.Author.Rules.{rules}
 use Rattle.areas.proofs.areas.Statement.{statement}
 use Rattle.areas.proofs.areas.Tie as tie
 
-stored-area-requires : tie.Need-stored-area-requires
-stored-area-requires c κs = search rules
+stored_area_requires : tie.Need-stored-area-requires
+stored_area_requires c κs = search rules
 
-stored-area-requires-2 : tie.Need-stored-area-requires-2
-stored-area-requires-2 c κs = search rules
+stored_area_requires_2 : tie.Need-stored-area-requires-2
+stored_area_requires_2 c κs = search rules
 
-stored-area-requires-3 : tie.Need-stored-area-requires-3
-stored-area-requires-3 c κs = search rules
+stored_area_requires_3 : tie.Need-stored-area-requires-3
+stored_area_requires_3 c κs = search rules
 
-stored-area-requires-4 : tie.Need-stored-area-requires-4
-stored-area-requires-4 c κs = search rules
+stored_area_requires_4 : tie.Need-stored-area-requires-4
+stored_area_requires_4 c κs = search rules
 
 returns : tie.Need-returns
 returns c =
@@ -24,12 +24,12 @@ returns c =
       c.before.before.before.stored-area.ensures,
     )
 
-pub areas-spec : {M : Type 1} → statement M
-areas-spec =
+pub areas_spec : {M : Type 1} → statement M
+areas_spec =
     tie.close
     (tie.spec
-    stored-area-requires
-    stored-area-requires-2
-    stored-area-requires-3
-    stored-area-requires-4
+    stored_area_requires
+    stored_area_requires_2
+    stored_area_requires_3
+    stored_area_requires_4
     returns)

@@ -12,33 +12,33 @@ use Rattle.authority.specs.Widest.{asked}
 use Rattle.authority.proofs.all_within.Statement.{statement}
 use Rattle.authority.proofs.all_within.Tie as tie
 
-abbrev invariant-loop : tie.invariant-loop
-invariant-loop leaves widest within₀ m₀ m-end within m =
+abbrev invariant_loop : tie.invariant-loop
+invariant_loop leaves widest within₀ m₀ m-end within m =
     within ≡ true → (j : ℕ) → j < m → asked (get_or leaves j 0) ≤ get_or widest j 0
 
-abbrev decreases-loop : tie.decreases-loop
-decreases-loop leaves widest within₀ m₀ m-end within m = m-end - m
+abbrev decreases_loop : tie.decreases-loop
+decreases_loop leaves widest within₀ m₀ m-end within m = m-end - m
 
-loop-holds : tie.Need-loop-init invariant-loop decreases-loop
-loop-holds c = λ within j h. absurd (not-suc-le-zero h)
+loop_holds : tie.Need-loop-init invariant_loop decreases_loop
+loop_holds c = λ within j h. absurd (not-suc-le-zero h)
 
-shared-slice-read-if1 : tie.Need-shared-slice-read-if1 invariant-loop decreases-loop
-shared-slice-read-if1 c = search rules
+shared_slice_read_if1 : tie.Need-shared-slice-read-if1 invariant_loop decreases_loop
+shared_slice_read_if1 c = search rules
 
-shared-slice-read-asked : tie.Need-shared-slice-read-asked invariant-loop decreases-loop
-shared-slice-read-asked c = search rules
+shared_slice_read_asked : tie.Need-shared-slice-read-asked invariant_loop decreases_loop
+shared_slice_read_asked c = search rules
 
-asked-requires : tie.Need-asked-requires invariant-loop decreases-loop
-asked-requires c κs = search rules
+asked_requires : tie.Need-asked-requires invariant_loop decreases_loop
+asked_requires c κs = search rules
 
-add-m : tie.Need-overflow-add-m invariant-loop decreases-loop
-add-m c = search rules
+add_m : tie.Need-overflow-add-m invariant_loop decreases_loop
+add_m c = search rules
 
-loop-less : tie.Need-loop-smaller invariant-loop decreases-loop
-loop-less c = search rules
+loop_less : tie.Need-loop-smaller invariant_loop decreases_loop
+loop_less c = search rules
 
-loop-again : tie.Need-loop-preserved invariant-loop decreases-loop
-loop-again c =
+loop_again : tie.Need-loop-preserved invariant_loop decreases_loop
+loop_again c =
     let v = c.before in
     let h = v.before.before.before.before in
     let a = h.before.before.before.args in
@@ -47,20 +47,20 @@ loop-again c =
     (λ w within. upto (h.loop.invariant (sym w.1 ∙ within)) (omega (arith, w.0.left, v.asked.ensures)))
     c.if1.branch
 
-returns : tie.Need-returns invariant-loop decreases-loop
+returns : tie.Need-returns invariant_loop decreases_loop
 returns c = let h = c.before in λ within m below. h.loop.invariant within m (omega (arith, below, c.loop-test.false))
 
-pub all-within-spec : {M : Type 1} → statement M
-all-within-spec =
+pub all_within_spec : {M : Type 1} → statement M
+all_within_spec =
     tie.close
     (tie.spec
-    invariant-loop
-    decreases-loop
-    loop-holds
-    shared-slice-read-if1
-    shared-slice-read-asked
-    asked-requires
-    add-m
-    loop-less
-    loop-again
+    invariant_loop
+    decreases_loop
+    loop_holds
+    shared_slice_read_if1
+    shared_slice_read_asked
+    asked_requires
+    add_m
+    loop_less
+    loop_again
     returns)

@@ -1,78 +1,78 @@
 -- `granted_entry` meets its contract: the frame is nobody's, or its owner grants writing, reading or nothing.
 use mathlib.Core.Path.{◌≡◌, ◌∙◌, sym}
 use borrow.Author.Rules.{rules}
-use Rattle.p2m.specs.Frame.{ownerOf}
+use Rattle.p2m.specs.Frame.{owner_of}
 use Rattle.p2m.specs.declared.Owner.TheVariants.{Domain}
-use Rattle.authority.specs.Widest.{widestBy}
+use Rattle.authority.specs.Widest.{widest_by}
 use Rattle.authority.proofs.granted_entry.Statement.{statement}
 use Rattle.authority.proofs.granted_entry.Tie as tie
 
 owned :
     (c : tie.After-owner) →
-    let a = c.before.before.before.args in ownerOf a.frames.now a.g.frame ≡ Domain c.owner.given.0.0
+    let a = c.before.before.before.args in owner_of a.frames.now a.g.frame ≡ Domain c.owner.given.0.0
 owned c = sym c.before.before.owner_of.ensures ∙ c.owner.given.1
 
-owner-of-requires : tie.Need-owner-of-requires
-owner-of-requires c κs = search rules
+owner_of_requires : tie.Need-owner-of-requires
+owner_of_requires c κs = search rules
 
-enum-known-owner : tie.Need-enum-known-owner
-enum-known-owner c = search rules
+enum_known_owner : tie.Need-enum-known-owner
+enum_known_owner c = search rules
 
 enum_told : tie.Need-enum-told
 enum_told c = search rules
 
 returns : tie.Need-returns
-unfolding widestBy
+unfolding widest_by
 returns c = rw (sym c.before.before.owner_of.ensures ∙ c.enum_told.given.1)
 
-covers-requires : tie.Need-covers-requires
-covers-requires c κs = search rules
+covers_requires : tie.Need-covers-requires
+covers_requires c κs = search rules
 
-code-requires : tie.Need-code-requires
-code-requires c κs = search rules
+code_requires : tie.Need-code-requires
+code_requires c κs = search rules
 
-returns-2 : tie.Need-returns-2
-unfolding widestBy
-returns-2 c =
+returns_2 : tie.Need-returns-2
+unfolding widest_by
+returns_2 c =
     let t = c.before in
     let v = t.before in
     rw (owned v.before.before, sym v.covers.ensures ∙ t.if1.true) c.code.ensures
 
-covers-requires-2 : tie.Need-covers-requires-2
-covers-requires-2 c κs = search rules
+covers_requires_2 : tie.Need-covers-requires-2
+covers_requires_2 c κs = search rules
 
-code-requires-2 : tie.Need-code-requires-2
-code-requires-2 c κs = search rules
+code_requires_2 : tie.Need-code-requires-2
+code_requires_2 c κs = search rules
 
-returns-3 : tie.Need-returns-3
-unfolding widestBy
-returns-3 c =
+returns_3 : tie.Need-returns-3
+unfolding widest_by
+returns_3 c =
     let t = c.before in
     let r = t.before in
     let e = r.before in
     let v = e.before in
     rw (owned v.before.before, sym v.covers.ensures ∙ e.if1.false, sym r.covers2.ensures ∙ t.if2.true) c.code2.ensures
 
-returns-4 : tie.Need-returns-4
-unfolding widestBy
-returns-4 c =
+returns_4 : tie.Need-returns-4
+unfolding widest_by
+returns_4 c =
     let r = c.before in
     let e = r.before in
     let v = e.before in
     rw (owned v.before.before, sym v.covers.ensures ∙ e.if1.false, sym r.covers2.ensures ∙ c.if2.false)
 
-pub granted-entry-spec : {M : Type 1} → statement M
-granted-entry-spec =
+pub granted_entry_spec : {M : Type 1} → statement M
+granted_entry_spec =
     tie.close
     (tie.spec
-    owner-of-requires
-    enum-known-owner
+    owner_of_requires
+    enum_known_owner
     enum_told
     returns
-    covers-requires
-    code-requires
-    returns-2
-    covers-requires-2
-    code-requires-2
-    returns-3
-    returns-4)
+    covers_requires
+    code_requires
+    returns_2
+    covers_requires_2
+    code_requires_2
+    returns_3
+    returns_4)

@@ -5,17 +5,17 @@ use Rattle.authority.proofs.Noted.{stored, kept, untouched}
 use Rattle.authority.proofs.note.Statement.{statement}
 use Rattle.authority.proofs.note.Tie as tie
 
-cast-frame : tie.Need-overflow-cast-frame
-cast-frame c = search rules
+cast_frame : tie.Need-overflow-cast-frame
+cast_frame c = search rules
 
-granted-entry-requires : tie.Need-granted-entry-requires
-granted-entry-requires c κs = search rules
+granted_entry_requires : tie.Need-granted-entry-requires
+granted_entry_requires c κs = search rules
 
-slice-read-if2 : tie.Need-slice-read-if2
-slice-read-if2 c = search rules
+slice_read_if2 : tie.Need-slice-read-if2
+slice_read_if2 c = search rules
 
-slice-write-widest : tie.Need-slice-write-widest
-slice-write-widest c = search rules
+slice_write_widest : tie.Need-slice-write-widest
+slice_write_widest c = search rules
 
 same_length : tie.Need-same-length
 same_length c = search rules
@@ -28,29 +28,29 @@ returns c =
     stored a.frames.now a.dom m a.g a.widest.now v.granted-entry.result v.granted-entry.ensures
     v.before.if1.true c.if2.true
 
-returns-2 : tie.Need-returns-2
-returns-2 c =
+returns_2 : tie.Need-returns-2
+returns_2 c =
     let v = c.before.before in
     let a = v.before.before.before.before.args in
     λ m inside.
     kept a.frames.now a.dom m a.g a.widest.now v.granted-entry.result v.granted-entry.ensures c.if2.false
 
-returns-3 : tie.Need-returns-3
-returns-3 c =
+returns_3 : tie.Need-returns-3
+returns_3 c =
     let a = c.before.before.before.args in
     let out = c.if1.false in
     λ m inside.
     untouched a.frames.now a.dom m a.g a.widest.now (λ e. omega (arith, out, inside, e))
 
-pub note-spec : {M : Type 1} → statement M
-note-spec =
+pub note_spec : {M : Type 1} → statement M
+note_spec =
     tie.close
     (tie.spec
-    cast-frame
-    granted-entry-requires
-    slice-read-if2
-    slice-write-widest
+    cast_frame
+    granted_entry_requires
+    slice_read_if2
+    slice_write_widest
     same_length
     returns
-    returns-2
-    returns-3)
+    returns_2
+    returns_3)

@@ -5,40 +5,40 @@ use native.Mathlib.Nat.{not-suc-le-zero}
 use native.Mathlib.Omega.{arith}
 use lib.ListN.{get_or}
 use borrow.Author.Rules.{rules}
-use Rattle.conflict.proofs.Both.{no-conflict-at, everywhere}
+use Rattle.conflict.proofs.Both.{no_conflict_at, everywhere}
 use Rattle.conflict.proofs.overlap.Statement.{statement}
 use Rattle.conflict.proofs.overlap.Tie as tie
 use Rattle.fields.proofs.Below.{below_next}
 
-abbrev invariant-loop : tie.invariant-loop
-invariant-loop base sup most₀ m₀ m-end most m = (j : ℕ) → j < m → min (get_or base j 0) (get_or sup j 0) ≤ most
+abbrev invariant_loop : tie.invariant-loop
+invariant_loop base sup most₀ m₀ m-end most m = (j : ℕ) → j < m → min (get_or base j 0) (get_or sup j 0) ≤ most
 
-abbrev decreases-loop : tie.decreases-loop
-decreases-loop base sup most₀ m₀ m-end most m = m-end - m
+abbrev decreases_loop : tie.decreases-loop
+decreases_loop base sup most₀ m₀ m-end most m = m-end - m
 
-shared-len-requires : tie.Need-shared-len-requires invariant-loop decreases-loop
-shared-len-requires c κs = search rules
+shared_len_requires : tie.Need-shared-len-requires invariant_loop decreases_loop
+shared_len_requires c κs = search rules
 
-loop-holds : tie.Need-loop-init invariant-loop decreases-loop
-loop-holds c = λ j h. absurd (not-suc-le-zero h)
+loop_holds : tie.Need-loop-init invariant_loop decreases_loop
+loop_holds c = λ j h. absurd (not-suc-le-zero h)
 
-shared-slice-read-lesser : tie.Need-shared-slice-read-lesser invariant-loop decreases-loop
-shared-slice-read-lesser c = omega (arith, c.before.before.before.shared-len.ensures)
+shared_slice_read_lesser : tie.Need-shared-slice-read-lesser invariant_loop decreases_loop
+shared_slice_read_lesser c = omega (arith, c.before.before.before.shared-len.ensures)
 
-shared-slice-read-lesser-2 : tie.Need-shared-slice-read-lesser-2 invariant-loop decreases-loop
-shared-slice-read-lesser-2 c = omega (arith, c.before.before.before.before.shared-len.ensures)
+shared_slice_read_lesser_2 : tie.Need-shared-slice-read-lesser-2 invariant_loop decreases_loop
+shared_slice_read_lesser_2 c = omega (arith, c.before.before.before.before.shared-len.ensures)
 
-lesser-requires : tie.Need-lesser-requires invariant-loop decreases-loop
-lesser-requires c κs = search rules
+lesser_requires : tie.Need-lesser-requires invariant_loop decreases_loop
+lesser_requires c κs = search rules
 
-add-m : tie.Need-overflow-add-m invariant-loop decreases-loop
-add-m c = search rules
+add_m : tie.Need-overflow-add-m invariant_loop decreases_loop
+add_m c = search rules
 
-loop-less : tie.Need-loop-smaller invariant-loop decreases-loop
-loop-less c = search rules
+loop_less : tie.Need-loop-smaller invariant_loop decreases_loop
+loop_less c = search rules
 
-loop-again : tie.Need-loop-preserved invariant-loop decreases-loop
-loop-again c =
+loop_again : tie.Need-loop-preserved invariant_loop decreases_loop
+loop_again c =
     let v = c.before in
     let h = v.before.before.before.before in
     let a = h.before.before.before.before.args in
@@ -49,29 +49,29 @@ loop-again c =
     (λ w. upto (λ j below. omega (arith, h.loop.invariant j below, w.1)) (omega (arith, both, w.0.left, w.1)))
     c.if1.branch
 
-returns : tie.Need-returns invariant-loop decreases-loop
+returns : tie.Need-returns invariant_loop decreases_loop
 returns c =
     let h = c.before in
     let a = h.before.before.before.before.args in
     λ zero m.
-    no-conflict-at a.sup.now m (get_or a.base.now m 0)
+    no_conflict_at a.sup.now m (get_or a.base.now m 0)
     (everywhere a.base.now a.sup.now 0
     (λ j below.
     omega (arith, h.loop.invariant j (omega (arith, below, c.loop-test.false, h.before.shared-len.ensures)), zero))
     m)
 
-pub overlap-spec : {M : Type 1} → statement M
-overlap-spec =
+pub overlap_spec : {M : Type 1} → statement M
+overlap_spec =
     tie.close
     (tie.spec
-    invariant-loop
-    decreases-loop
-    shared-len-requires
-    loop-holds
-    shared-slice-read-lesser
-    shared-slice-read-lesser-2
-    lesser-requires
-    add-m
-    loop-less
-    loop-again
+    invariant_loop
+    decreases_loop
+    shared_len_requires
+    loop_holds
+    shared_slice_read_lesser
+    shared_slice_read_lesser_2
+    lesser_requires
+    add_m
+    loop_less
+    loop_again
     returns)

@@ -12,21 +12,21 @@ use Rattle.descent.proofs.descend.Tie as tie
 returns : tie.Need-returns
 returns c = rw (le-ltb _ _ c.if1.true)
 
-element-copy-out-word-at : tie.Need-element-copy-out-word-at
-element-copy-out-word-at c = search rules
+element_copy_out_word_at : tie.Need-element-copy-out-word-at
+element_copy_out_word_at c = search rules
 
-word-at-requires : tie.Need-word-at-requires
-word-at-requires c κs = search rules
+word_at_requires : tie.Need-word-at-requires
+word_at_requires c κs = search rules
 
-through-requires : tie.Need-through-requires
-through-requires c κs = search rules
+through_requires : tie.Need-through-requires
+through_requires c κs = search rules
 
-stop-of-requires : tie.Need-stop-of-requires
-stop-of-requires c κs = search rules
+stop_of_requires : tie.Need-stop-of-requires
+stop_of_requires c κs = search rules
 
-returns-2 : tie.Need-returns-2
+returns_2 : tie.Need-returns-2
 unfolding descend
-returns-2 c =
+returns_2 c =
     let p = c.before in
     let w = p.before.before in
     let e = w.before.before in
@@ -38,13 +38,13 @@ returns-2 c =
     ∙ ap (λ d. through a.tables.now ws 2 d a.ipa) w.word-at.ensures
     ∙ sym (rw (lt-ltb _ _ e.if1.false))
 
-pub descend-spec : {M : Type 1} → statement M
-descend-spec =
+pub descend_spec : {M : Type 1} → statement M
+descend_spec =
     tie.close
     (tie.spec
     returns
-    element-copy-out-word-at
-    word-at-requires
-    through-requires
-    stop-of-requires
-    returns-2)
+    element_copy_out_word_at
+    word_at_requires
+    through_requires
+    stop_of_requires
+    returns_2)

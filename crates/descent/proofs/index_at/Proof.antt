@@ -8,14 +8,14 @@ use Rattle.descent.proofs.index_at.Tie as tie
 returns : tie.Need-returns
 returns c = (sym (ap (λ left. index left c.before.args.ipa) c.match.keys1), omega arith)
 
-returns-2 : tie.Need-returns-2
-returns-2 c = (sym (ap (λ left. index left c.before.args.ipa) c.match.keys2), omega arith)
+returns_2 : tie.Need-returns-2
+returns_2 c = (sym (ap (λ left. index left c.before.args.ipa) c.match.keys2), omega arith)
 
-returns-3 : tie.Need-returns-3
-returns-3 c =
+returns_3 : tie.Need-returns-3
+returns_3 c =
     let r = c.match.rest in
     let two : c.before.args.left ≡ 2 = omega (arith, r.0.1, r.1) in
     (sym (ap (λ left. index left c.before.args.ipa) two), omega arith)
 
-pub index-at-spec : {M : Type 1} → statement M
-index-at-spec = tie.close (tie.spec returns returns-2 returns-3)
+pub index_at_spec : {M : Type 1} → statement M
+index_at_spec = tie.close (tie.spec returns returns_2 returns_3)

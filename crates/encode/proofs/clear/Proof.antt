@@ -3,64 +3,64 @@ use Prim.Native.Nat.{◌-◌, ◌*◌, ◌≤◌}
 use native.Mathlib.Omega.{arith}
 use borrow.Author.Rules.{rules}
 use Rattle.arena.specs.Over.{Over}
-use Rattle.layout.specs.Size.{entries, arenaLength}
-use Rattle.encode.proofs.Cleared.{clearedTo, none-cleared, one-cleared, all-cleared}
+use Rattle.layout.specs.Size.{entries, arena_length}
+use Rattle.encode.proofs.Cleared.{cleared_to, none_cleared, one_cleared, all_cleared}
 use Rattle.encode.proofs.clear.Statement.{statement}
 use Rattle.encode.proofs.clear.Tie as tie
 
-abbrev invariant-loop : tie.invariant-loop
-invariant-loop arena₀ i₀ arena i = Over (clearedTo i) arena₀ arena × (3 * entries ≤ i)
+abbrev invariant_loop : tie.invariant-loop
+invariant_loop arena₀ i₀ arena i = Over (cleared_to i) arena₀ arena × (3 * entries ≤ i)
 
-abbrev decreases-loop : tie.decreases-loop
-decreases-loop arena₀ i₀ arena i = arenaLength - i
+abbrev decreases_loop : tie.decreases-loop
+decreases_loop arena₀ i₀ arena i = arena_length - i
 
-mul-i : tie.Need-overflow-mul-i invariant-loop decreases-loop
-mul-i c = search rules
+mul_i : tie.Need-overflow-mul-i invariant_loop decreases_loop
+mul_i c = search rules
 
-loop-holds : tie.Need-loop-init invariant-loop decreases-loop
-loop-holds c = (none-cleared _, omega arith)
+loop_holds : tie.Need-loop-init invariant_loop decreases_loop
+loop_holds c = (none_cleared _, omega arith)
 
-mul-arena : tie.Need-overflow-mul-arena invariant-loop decreases-loop
-mul-arena c = search rules
+mul_arena : tie.Need-overflow-mul-arena invariant_loop decreases_loop
+mul_arena c = search rules
 
-slice-write-arena : tie.Need-slice-write-arena invariant-loop decreases-loop
-slice-write-arena c = search rules
+slice_write_arena : tie.Need-slice-write-arena invariant_loop decreases_loop
+slice_write_arena c = search rules
 
-add-i : tie.Need-overflow-add-i invariant-loop decreases-loop
-add-i c = search rules
+add_i : tie.Need-overflow-add-i invariant_loop decreases_loop
+add_i c = search rules
 
-loop-less : tie.Need-loop-smaller invariant-loop decreases-loop
-loop-less c = search rules
+loop_less : tie.Need-loop-smaller invariant_loop decreases_loop
+loop_less c = search rules
 
-loop-again : tie.Need-loop-preserved invariant-loop decreases-loop
-loop-again c =
+loop_again : tie.Need-loop-preserved invariant_loop decreases_loop
+loop_again c =
     let h = c.before in
     let s = h.before in
     let i = h.loop.i in
     let below = c.loop-test.true in
-    (one-cleared i _ _ h.loop.invariant.1 (omega (arith, below, s.requires)) h.loop.invariant.0, omega (arith, h.loop.invariant.1))
+    (one_cleared i _ _ h.loop.invariant.1 (omega (arith, below, s.requires)) h.loop.invariant.0, omega (arith, h.loop.invariant.1))
 
-same_length : tie.Need-same-length invariant-loop decreases-loop
+same_length : tie.Need-same-length invariant_loop decreases_loop
 same_length c = c.before.loop.invariant.0.long
 
-returns : tie.Need-returns invariant-loop decreases-loop
+returns : tie.Need-returns invariant_loop decreases_loop
 returns c =
     let h = c.before in
     let left = c.loop-test.false in
-    all-cleared h.loop.i _ _ (omega (arith, left, h.before.requires)) h.loop.invariant.0
+    all_cleared h.loop.i _ _ (omega (arith, left, h.before.requires)) h.loop.invariant.0
 
 pub clear_spec : {M : Type 1} → statement M
 clear_spec =
     tie.close
     (tie.spec
-    invariant-loop
-    decreases-loop
-    mul-i
-    loop-holds
-    mul-arena
-    slice-write-arena
-    add-i
-    loop-less
-    loop-again
+    invariant_loop
+    decreases_loop
+    mul_i
+    loop_holds
+    mul_arena
+    slice_write_arena
+    add_i
+    loop_less
+    loop_again
     same_length
     returns)

@@ -3,24 +3,24 @@ use mathlib.Core.List.{[], ◌∷◌}
 use mathlib.Core.Path.{sym, ap, ◌∙◌, subst}
 use native.Mathlib.Omega.{arith}
 use borrow.Author.Rules.{rules}
-use Rattle.arena.proofs.Over.{over-append, over_runs}
-use Rattle.arena.specs.Encoded.{deviceRun, leafRuns}
-use Rattle.layout.specs.Window.{deviceWindow}
+use Rattle.arena.proofs.Over.{over_append, over_runs}
+use Rattle.arena.specs.Encoded.{device_run, leaf_runs}
+use Rattle.layout.specs.Window.{device_window}
 use Rattle.encode.specs.Fits.{DeviceFits}
 use Rattle.encode.proofs.encode_leaves.Statement.{statement}
 use Rattle.encode.proofs.encode_leaves.Tie as tie
 
-put-pages-requires : tie.Need-put-pages-requires
-put-pages-requires c κs = search rules
+put_pages_requires : tie.Need-put-pages-requires
+put_pages_requires c κs = search rules
 
-encode-super-requires : tie.Need-encode-super-requires
-encode-super-requires c κs = search rules
+encode_super_requires : tie.Need-encode-super-requires
+encode_super_requires c κs = search rules
 
-device-window-requires : tie.Need-device-window-requires
-device-window-requires c κs = search rules
+device_window_requires : tie.Need-device-window-requires
+device_window_requires c κs = search rules
 
-put-device-requires : tie.Need-put-device-requires
-put-device-requires c κs =
+put_device_requires : tie.Need-put-device-requires
+put_device_requires c κs =
     let super = c.before.before.before.before in
     let pages = super.before.before.before.before in
     let s = pages.before.before.before.before.before in (
@@ -32,7 +32,7 @@ same_length : tie.Need-same-length
 same_length c = search rules
 
 returns : tie.Need-returns
-unfolding leafRuns
+unfolding leaf_runs
 returns c =
     let device = c.before.before in
     let w = device.before in
@@ -40,18 +40,18 @@ returns c =
     let pages = super.before.before.before.before in
     let l = pages.before.before.before.before.before.args.l in
     let blocks =
-    over_runs _ (deviceRun 6 (deviceWindow l) ∷ []) _ _ (ap (λ w. deviceRun 6 w ∷ []) w.device-window.ensures)
+    over_runs _ (device_run 6 (device_window l) ∷ []) _ _ (ap (λ w. device_run 6 w ∷ []) w.device-window.ensures)
     device.put-device.ensures in
-    over-append (_ ∷ []) (_ ∷ _ ∷ []) _ _ _ pages.put-pages.ensures
-    (over-append (_ ∷ []) (_ ∷ []) _ _ _ super.encode-super.ensures blocks)
+    over_append (_ ∷ []) (_ ∷ _ ∷ []) _ _ _ pages.put-pages.ensures
+    (over_append (_ ∷ []) (_ ∷ []) _ _ _ super.encode-super.ensures blocks)
 
-pub encode-leaves-spec : {M : Type 1} → statement M
-encode-leaves-spec =
+pub encode_leaves_spec : {M : Type 1} → statement M
+encode_leaves_spec =
     tie.close
     (tie.spec
-    put-pages-requires
-    encode-super-requires
-    device-window-requires
-    put-device-requires
+    put_pages_requires
+    encode_super_requires
+    device_window_requires
+    put_device_requires
     same_length
     returns)

@@ -8,12 +8,12 @@ use lib.Dec.{eqb}
 use lib.ListN.{get_or-eq_default, length, get_or}
 use borrow.Author.Rules.{rules}
 use borrow.Author.Tests.{eqb-true, eqb-false}
-use Rattle.arena.proofs.Over.{over-from, over-run}
+use Rattle.arena.proofs.Over.{over_from, over_run}
 use Rattle.arena.proofs.Runs.{resized}
-use Rattle.arena.specs.Encoded.{superAt}
-use Rattle.arena.specs.Word.{leafFor, blockTo}
+use Rattle.arena.specs.Encoded.{super_at}
+use Rattle.arena.specs.Word.{leaf_for, block_to}
 use Rattle.layout.specs.Size.{entries, block}
-use Rattle.layout.specs.Window.{l2Slot}
+use Rattle.layout.specs.Window.{l2_slot}
 use Rattle.layout.specs.declared.Layout.{Layout}
 use Rattle.encode.specs.Fits.{SupersFit}
 use Rattle.encode.proofs.encode_super.Statement.{statement}
@@ -21,13 +21,13 @@ use Rattle.encode.proofs.encode_super.Tie as tie
 
 module _ (l : Layout) (sup : List ℕ) where
   abbrev super : ℕ → ℕ
-  super = superAt l.sup_pa_base l.sup_wx_exempt sup
+  super = super_at l.sup_pa_base l.sup_wx_exempt sup
 
   unmapped : (p : ℕ) → get_or sup p 0 ≡ 0 → super p ≡ 0
-  unmapped p e = ap (λ (n : ℕ). leafFor n (blockTo (l.sup_pa_base + p * block) l.sup_wx_exempt)) e
+  unmapped p e = ap (λ (n : ℕ). leaf_for n (block_to (l.sup_pa_base + p * block) l.sup_wx_exempt)) e
 
-  past-map : (p : ℕ) → length sup ≤ p → super p ≡ 0
-  past-map p h = unmapped p (get_or-eq_default sup 0 h)
+  past_map : (p : ℕ) → length sup ≤ p → super p ≡ 0
+  past_map p h = unmapped p (get_or-eq_default sup 0 h)
 
   -- no entry at or past sup_frames is mapped
   unbacked : SupersFit l sup → (p : ℕ) → l.sup_frames ≤ p → p < length sup → super p ≡ 0
@@ -37,11 +37,11 @@ module _ (l : Layout) (sup : List ℕ) where
       go true e = unmapped p (eqb-true _ _ e)
       go false e = let k = fit.backed p hi (eqb-false _ _ e) in absurd (omega (arith, lo, k))
 
-l2-index-requires : tie.Need-l2-index-requires
-l2-index-requires c κs = search rules
+l2_index_requires : tie.Need-l2-index-requires
+l2_index_requires c κs = search rules
 
-put-supers-requires : tie.Need-put-supers-requires
-put-supers-requires c κs =
+put_supers_requires : tie.Need-put-supers-requires
+put_supers_requires c κs =
     let i = c.before in
     let s = i.before.before.before in
     let fit = s.requires.1 in
@@ -61,12 +61,12 @@ returns c =
     let s = i.before.before.before in
     let l = s.args.l in
     let sup = s.args.sup.now in
-    let w = superAt l.sup_pa_base l.sup_wx_exempt sup in
-    let placed = over-from 5 _ (l2Slot l.sup_ipa_base) _ w _ _ i.l2-index.ensures z.put-supers.ensures in
+    let w = super_at l.sup_pa_base l.sup_wx_exempt sup in
+    let placed = over_from 5 _ (l2_slot l.sup_ipa_base) _ w _ _ i.l2-index.ensures z.put-supers.ensures in
     let counted =
-    resized 5 (l2Slot l.sup_ipa_base) (length sup) l.sup_frames w (λ p lo hi. past-map l sup p lo)
+    resized 5 (l2_slot l.sup_ipa_base) (length sup) l.sup_frames w (λ p lo hi. past_map l sup p lo)
     (unbacked l sup s.requires.1) in
-    over-run _ _ _ _ counted placed
+    over_run _ _ _ _ counted placed
 
-pub encode-super-spec : {M : Type 1} → statement M
-encode-super-spec = tie.close (tie.spec l2-index-requires put-supers-requires same_length returns)
+pub encode_super_spec : {M : Type 1} → statement M
+encode_super_spec = tie.close (tie.spec l2_index_requires put_supers_requires same_length returns)

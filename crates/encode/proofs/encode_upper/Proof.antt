@@ -2,35 +2,35 @@
 use mathlib.Core.List.{[], ◌∷◌, map}
 use mathlib.Core.Path.{ap}
 use borrow.Author.Rules.{rules}
-use Rattle.areas.specs.Area.{areasOf}
-use Rattle.arena.proofs.Over.{over-append, over-placed, over_runs}
-use Rattle.arena.specs.Encoded.{areaRun, upperRuns}
+use Rattle.areas.specs.Area.{areas_of}
+use Rattle.arena.proofs.Over.{over_append, over_placed, over_runs}
+use Rattle.arena.specs.Encoded.{area_run, upper_runs}
 use Rattle.encode.proofs.encode_upper.Statement.{statement}
 use Rattle.encode.proofs.encode_upper.Tie as tie
 
-areas-requires : tie.Need-areas-requires
-areas-requires c κs = search rules
+areas_requires : tie.Need-areas-requires
+areas_requires c κs = search rules
 
-put-areas-requires : tie.Need-put-areas-requires
-put-areas-requires c κs = search rules
+put_areas_requires : tie.Need-put-areas-requires
+put_areas_requires c κs = search rules
 
-put-image-requires : tie.Need-put-image-requires
-put-image-requires c κs = search rules
+put_image_requires : tie.Need-put-image-requires
+put_image_requires c κs = search rules
 
-l2-index-requires : tie.Need-l2-index-requires
-l2-index-requires c κs = search rules
+l2_index_requires : tie.Need-l2-index-requires
+l2_index_requires c κs = search rules
 
-table-word-requires : tie.Need-table-word-requires
-table-word-requires c κs = search rules
+table_word_requires : tie.Need-table-word-requires
+table_word_requires c κs = search rules
 
-put-requires : tie.Need-put-requires
-put-requires c κs = search rules
+put_requires : tie.Need-put-requires
+put_requires c κs = search rules
 
 same_length : tie.Need-same-length
 same_length c = search rules
 
 returns : tie.Need-returns
-unfolding upperRuns
+unfolding upper_runs
 returns c =
     let v = c.before.before in
     let at = v.before.before.before in
@@ -38,19 +38,19 @@ returns c =
     let areas = image.before.before.before.before in
     let l = areas.before.before.before.before.args.l in
     let words =
-    over_runs _ (map areaRun (areasOf l)) _ _ (ap (map areaRun) areas.before.areas.ensures) areas.put-areas.ensures in
-    let pages = over-placed 3 _ _ _ _ _ _ at.l2-index.ensures v.before.table-word.ensures v.put.ensures in
-    over-append (map areaRun (areasOf l)) (_ ∷ _ ∷ []) _ _ _ words (over-append (_ ∷ []) (_ ∷ []) _ _ _ image.put-image.ensures pages)
+    over_runs _ (map area_run (areas_of l)) _ _ (ap (map area_run) areas.before.areas.ensures) areas.put-areas.ensures in
+    let pages = over_placed 3 _ _ _ _ _ _ at.l2-index.ensures v.before.table-word.ensures v.put.ensures in
+    over_append (map area_run (areas_of l)) (_ ∷ _ ∷ []) _ _ _ words (over_append (_ ∷ []) (_ ∷ []) _ _ _ image.put-image.ensures pages)
 
-pub encode-upper-spec : {M : Type 1} → statement M
-encode-upper-spec =
+pub encode_upper_spec : {M : Type 1} → statement M
+encode_upper_spec =
     tie.close
     (tie.spec
-    areas-requires
-    put-areas-requires
-    put-image-requires
-    l2-index-requires
-    table-word-requires
-    put-requires
+    areas_requires
+    put_areas_requires
+    put_image_requires
+    l2_index_requires
+    table_word_requires
+    put_requires
     same_length
     returns)

@@ -6,12 +6,12 @@ use lib.ListN.{length}
 use borrow.Author.Rules.{rules}
 use Rattle.layout.specs.Size.{entries}
 use Rattle.lent_rows.proofs.Read.{read_length}
-use Rattle.p2m.specs.Frame.{spanCode}
+use Rattle.p2m.specs.Frame.{span_code}
 use Rattle.refusal.proofs.First.{next, stop, last}
-use Rattle.refusal.specs.Outcome.{outcomeOf}
+use Rattle.refusal.specs.Outcome.{outcome_of}
 use Rattle.refusal.specs.Table.{first}
-use Rattle.rows.specs.Rows.{readRows}
-use Rattle.exact.specs.Exact.{comparedRows}
+use Rattle.rows.specs.Rows.{read_rows}
+use Rattle.exact.specs.Exact.{compared_rows}
 use Rattle.exact.proofs.compare.Statement.{statement}
 use Rattle.exact.proofs.compare.Tie as tie
 
@@ -19,63 +19,63 @@ use Rattle.exact.proofs.compare.Tie as tie
 read :
     (v : tie.After-read-map) →
     let a = v.before.before.before.args in
-    outcomeOf v.read-map.result ≡ first (readRows (spanCode a.span) a.leaves.now)
+    outcome_of v.read-map.result ≡ first (read_rows (span_code a.span) a.leaves.now)
 read v =
     let a = v.before.before.before.args in
-    v.read-map.ensures ∙ ap (λ code. first (readRows code a.leaves.now)) v.before.code.ensures
+    v.read-map.ensures ∙ ap (λ code. first (read_rows code a.leaves.now)) v.before.code.ensures
 
-code-requires : tie.Need-code-requires
-code-requires c κs = search rules
+code_requires : tie.Need-code-requires
+code_requires c κs = search rules
 
-cast-read-map : tie.Need-overflow-cast-read-map
-cast-read-map c = search rules
+cast_read_map : tie.Need-overflow-cast-read-map
+cast_read_map c = search rules
 
-read-map-requires : tie.Need-read-map-requires
-read-map-requires c κs = search rules
+read_map_requires : tie.Need-read-map-requires
+read_map_requires c κs = search rules
 
 enum_told : tie.Need-enum-told
 enum_told c = search rules
 
-enum-told-2 : tie.Need-enum-told-2
-enum-told-2 c = search rules
+enum_told_2 : tie.Need-enum-told-2
+enum_told_2 c = search rules
 
 returns : tie.Need-returns
-unfolding comparedRows flat_map
+unfolding compared_rows flat_map
 returns c =
     let v = c.before.before in
     let refused = c.enum-told2.given in
     stop _ _ v.read-map.result refused.0.0 refl refused.1 (read v)
 
-slice-aggregate-same-entries : tie.Need-slice-aggregate-same-entries
-slice-aggregate-same-entries c = search rules
+slice_aggregate_same_entries : tie.Need-slice-aggregate-same-entries
+slice_aggregate_same_entries c = search rules
 
-same-entries-requires : tie.Need-same-entries-requires
-same-entries-requires c κs =
+same_entries_requires : tie.Need-same-entries-requires
+same_entries_requires c κs =
     let told = c.before in
     let v = told.before.before in
-    let short = read_length _ _ (sym (read v) ∙ ap outcomeOf told.enum_told.given.1) in
+    let short = read_length _ _ (sym (read v) ∙ ap outcome_of told.enum_told.given.1) in
     -- t4 is what is wanted, which is lent
     let whole : length v.before.before.before.args.t4 ≡ entries = search rules in
     omega (arith, short, whole)
 
-returns-2 : tie.Need-returns-2
-unfolding comparedRows flat_map
-returns-2 c =
+returns_2 : tie.Need-returns-2
+unfolding compared_rows flat_map
+returns_2 c =
     let told = c.before.before in
     let v = told.before.before in
     last _ c.same_entries.result refl c.same_entries.ensures
     ∙ sym (next _ _ v.read-map.result refl told.enum_told.given.1 (read v))
 
-pub compare-spec : {M : Type 1} → statement M
-compare-spec =
+pub compare_spec : {M : Type 1} → statement M
+compare_spec =
     tie.close
     (tie.spec
-    code-requires
-    cast-read-map
-    read-map-requires
+    code_requires
+    cast_read_map
+    read_map_requires
     enum_told
-    enum-told-2
+    enum_told_2
     returns
-    slice-aggregate-same-entries
-    same-entries-requires
-    returns-2)
+    slice_aggregate_same_entries
+    same_entries_requires
+    returns_2)

@@ -59,8 +59,8 @@ use Rattle.edge.specs.Edge.{edge_of}
 use Rattle.edge.specs.declared.Edge.{Edge}
 use Rattle.edge.specs.contracts.Edge as E
 use Rattle.edge.proofs.Edge.TheLaws as E'
-use Rattle.exact.specs.Exact.{exactRows, comparedRows}
-use Rattle.exact.proofs.Same.{same-compared}
+use Rattle.exact.specs.Exact.{exact_rows, compared_rows}
+use Rattle.exact.proofs.Same.{same_compared}
 use Rattle.exact.specs.contracts.compare as compare
 use Rattle.exact.proofs.compare.Symbol as compare_def
 use Rattle.exact.proofs.compare.Symbol.{name as #compare}
@@ -71,8 +71,8 @@ use Rattle.exact_edges.specs.contracts.check_exact as check
 use Rattle.exact_edges.proofs.check_exact.Statement as stated
 use Rattle.exact_edges.proofs.check_exact.Code as code
 use Rattle.exact_edges.proofs.check_exact.Code.Mir as text
-use Rattle.expected.specs.Expected.{afterEdge}
-use Rattle.expected.proofs.SoFar.{Noted, none-noted, one-noted, all_noted}
+use Rattle.expected.specs.Expected.{after_edge}
+use Rattle.expected.proofs.SoFar.{Noted, none_noted, one_noted, all_noted}
 use Rattle.expected.specs.contracts.unmapped as unmapped
 use Rattle.expected.proofs.unmapped.Symbol as unmapped-def
 use Rattle.expected.proofs.unmapped.Symbol.{name as #unmapped}
@@ -83,11 +83,11 @@ use Rattle.expected.proofs.note.Symbol.{name as #note}
 use Rattle.expected.proofs.note.Met as note-thm
 use Rattle.layout.specs.Size.{entries}
 use Rattle.lending.proofs.Element.{element, shut}
-use Rattle.lending.proofs.Dropped.{dropped, dropped-go}
+use Rattle.lending.proofs.Dropped.{dropped, dropped_go}
 use Rattle.p2m.specs.declared.Span.{Span}
 use Rattle.p2m.specs.contracts.Span as S
 use Rattle.p2m.proofs.Span.TheLaws as S'
-use Rattle.refusal.specs.Outcome.{outcomeOf}
+use Rattle.refusal.specs.Outcome.{outcome_of}
 use Rattle.refusal.specs.Table.{first as firstRow}
 use Rattle.refusal.specs.declared.Verdict.{Verdict}
 use Rattle.refusal.specs.contracts.Verdict as R
@@ -169,8 +169,8 @@ module _
       abbrev wv : ℕ → Val
       wv l = slice_val (l, 0) entries
 
-      abbrev to-note : ℕ → ℕ → GName → List ℕ → Edge → (Note 𝓛 mem run).Ghost
-      to-note l ν δ xs e = (
+      abbrev to_note : ℕ → ℕ → GName → List ℕ → Edge → (Note 𝓛 mem run).Ghost
+      to_note l ν δ xs e = (
         (
           (ν ∷ [], (κ₂, tt)),
           (full_share, (q₂, tt)),
@@ -184,10 +184,10 @@ module _
       abbrev WantedOwn : ℕ → ℕ → GName → List ℕ → Fml
       WantedOwn l ν δ xs = (MutSlice (named 0) (ν ∷ []) u8).own_val (elements u8 entries l δ xs) (wv l ∷ [])
 
-      asks-note : (l ν : ℕ) (δ : GName) (xs : List ℕ) (e : Edge) → Is E.the_row e (E'.lowered e ∷ [])
+      asks_note : (l ν : ℕ) (δ : GName) (xs : List ℕ) (e : Edge) → Is E.the_row e (E'.lowered e ∷ [])
           → ent 𝓤 (⋆ 𝓛 (‵ (flft (ν ∷ []) full_share) ∷ ‵ (flft κ₂ q₂) ∷ ‵ (WantedOwn l ν δ xs) ∷ ‵ FramesOwn ∷ []))
-          ((Note 𝓛 mem run).pre (to-note l ν δ xs e))
-      asks-note l ν δ xs e is-e =
+          ((Note 𝓛 mem run).pre (to_note l ν δ xs e))
+      asks_note l ν δ xs e is-e =
           qed 𝓛 (‵ (flft (ν ∷ []) full_share) ∷ ‵ (flft κ₂ q₂) ∷ ‵ (WantedOwn l ν δ xs) ∷ ‵ FramesOwn ∷ []) ∵ nothing ! $
           move ! (4 ∷ 0 ∷ []) $ fjoin ! $
           owned ! S.the_row (Is S.the_row) (EL.makes S.the_type S'.the_plain 𝓛) span _ is-span $ fjoin ! $
@@ -196,8 +196,8 @@ module _
           -- [what the arguments own; the two tokens]
           nothing ! $ move ! (3 ∷ 0 ∷ []) $ join ! $ move ! (2 ∷ 0 ∷ []) $ join ! $ join ! $ frame ! $ done !
 
-      abbrev to-compare : List ℕ → Val → (Compare 𝓛 mem run).Ghost
-      to-compare xs v = (
+      abbrev to_compare : List ℕ → Val → (Compare 𝓛 mem run).Ghost
+      to_compare xs v = (
         (
           (κ₀, tt),
           (q₀, tt),
@@ -208,9 +208,9 @@ module _
         tt,
       )
 
-      asks-compare : (xs : List ℕ) (v : Val) → Is Entries xs (v ∷ [])
-          → ent 𝓤 (sep 𝓤 (A.lft κ₀ q₀) (sem 𝓛 LeavesOwn)) ((Compare 𝓛 mem run).pre (to-compare xs v))
-      asks-compare xs v is-xs =
+      asks_compare : (xs : List ℕ) (v : Val) → Is Entries xs (v ∷ [])
+          → ent 𝓤 (sep 𝓤 (A.lft κ₀ q₀) (sem 𝓛 LeavesOwn)) ((Compare 𝓛 mem run).pre (to_compare xs v))
+      asks_compare xs v is-xs =
           qed 𝓛 (‵ (flft κ₀ q₀) ∷ ‵ LeavesOwn ∷ []) ∵ nothing ! $
           owned ! Entries (Is Entries) (Array-Makes 𝓛 u8 (uint_Makes 𝓛 w8) entries) xs _ is-xs $ fjoin ! $
           owned ! S.the_row (Is S.the_row) (EL.makes S.the_type S'.the_plain 𝓛) span _ is-span $ fjoin ! $ move ! (2 ∷ 0 ∷ []) $
@@ -220,20 +220,20 @@ module _
           nothing ! $ move ! (2 ∷ 0 ∷ []) $ join ! $ join ! $ frame ! $ done !
 
       -- of a callee's `ensured`, the clause, and of `note`'s the last entries
-      says-unmapped : (r : List ℕ) → ent 𝓤 (ensured 𝓛 unmapped.ended (unmapped.clauses 𝓛 mem run) tt tt tt r)
+      says_unmapped : (r : List ℕ) → ent 𝓤 (ensured 𝓛 unmapped.ended (unmapped.clauses 𝓛 mem run) tt tt tt r)
           (fact 𝓤 (r ≡ replicate entries 0))
-      says-unmapped r = ex_e 𝓤 _ (λ ws. snd∗ 𝓤 (sem 𝓛 (lasts unmapped.ended tt tt ws)) _)
+      says_unmapped r = ex_e 𝓤 _ (λ ws. snd∗ 𝓤 (sem 𝓛 (lasts unmapped.ended tt tt ws)) _)
 
       abbrev After : List ℕ → Edge → List ℕ → Type 0
-      After xs e zs = (m : ℕ) → m < length xs → get_or zs m 0 ≡ afterEdge frames.now dom span m (get_or xs m 0) e
+      After xs e zs = (m : ℕ) → m < length xs → get_or zs m 0 ≡ after_edge frames.now dom span m (get_or xs m 0) e
 
       abbrev Left : GName → List ℕ → Edge → Item 𝓤
       Left δ xs e = some (λ (zs : List ℕ). given (After xs e zs) (‵ (finally u8 δ zs)))
 
-      says-note : (l ν : ℕ) (δ : GName) (xs : List ℕ) (e : Edge) (r : Unit {0})
+      says_note : (l ν : ℕ) (δ : GName) (xs : List ℕ) (e : Edge) (r : Unit {0})
           → ent 𝓤 (ensured 𝓛 note.ended (note.clauses 𝓛 mem run) (ν ∷ [], (κ₂, tt))
           (elements u8 entries l δ xs, (e, (dom, (span, (frames, tt))))) tt r) (mean 𝓛 (Left δ xs e))
-      says-note l ν δ xs e r = ex_e 𝓤 _ (λ ws.
+      says_note l ν δ xs e r = ex_e 𝓤 _ (λ ws.
           qed 𝓛 (‵ (lasts note.ended (ν ∷ [], (κ₂, tt)) (elements u8 entries l δ xs, (e, (dom, (span, (frames, tt))))) ws)
           ∷ raw (fact 𝓤 (After xs e ws.0)) ∷ []) ∵
           move ! (1 ∷ []) $ heard ! _ (λ after. fsplit ! $ fsplit ! $
@@ -241,14 +241,14 @@ module _
           done !))
 
       abbrev Compared : List ℕ → Verdict → Type 0
-      Compared xs r = outcomeOf r ≡ firstRow (comparedRows dom span (λ m. get_or xs m 0) leaves.now)
+      Compared xs r = outcome_of r ≡ firstRow (compared_rows dom span (λ m. get_or xs m 0) leaves.now)
 
-      says-compare : (xs : List ℕ) (r : Verdict)
+      says_compare : (xs : List ℕ) (r : Verdict)
           → ent 𝓤 (ensured 𝓛 compare.ended (compare.clauses 𝓛 mem run) (κ₀, tt) (dom, (leaves, (span, (xs, tt)))) tt r)
           (fact 𝓤 (Compared xs r))
-      says-compare xs r = ex_e 𝓤 _ (λ ws. snd∗ 𝓤 (sem 𝓛 (lasts compare.ended (κ₀, tt) (dom, (leaves, (span, (xs, tt)))) ws)) _)
+      says_compare xs r = ex_e 𝓤 _ (λ ws. snd∗ 𝓤 (sem 𝓛 (lasts compare.ended (κ₀, tt) (dom, (leaves, (span, (xs, tt)))) ws)) _)
 
-      exits : (r : Verdict) (u : Val) → outcomeOf r ≡ firstRow (exactRows frames.now dom span es leaves.now)
+      exits : (r : Verdict) (u : Val) → outcome_of r ≡ firstRow (exact_rows frames.now dom span es leaves.now)
           → ent 𝓤 (⋆ 𝓛 (‵ (flft κ₀ q₀) ∷ ‵ (flft κ₁ q₁) ∷ ‵ (flft κ₂ q₂) ∷ ‵ ((R.the_row).own_val r (u ∷ [])) ∷ [])) (Post u)
       exits r u e =
           qed 𝓛 (‵ (flft κ₀ q₀) ∷ ‵ (flft κ₁ q₁) ∷ ‵ (flft κ₂ q₂) ∷ ‵ ((R.the_row).own_val r (u ∷ [])) ∷ []) ∵
@@ -266,20 +266,20 @@ module _
       abbrev State : Type 0
       State = (i : ℕ) × ((xs : List ℕ) × ((v : Val) × ((i ≤ n) × (Is Entries xs (v ∷ []) × Noted frames.now dom span es i xs))))
 
-      is-entries : (s : State) → Is Entries s.1.0 (s.1.1.0 ∷ [])
-      is-entries s = s.1.1.1.1.0
+      is_entries : (s : State) → Is Entries s.1.0 (s.1.1.0 ∷ [])
+      is_entries s = s.1.1.1.1.0
 
-      all-entries : (s : State) → length s.1.0 ≡ entries
-      all-entries s = (is-entries s).1.0.1
+      all_entries : (s : State) → length s.1.0 ≡ entries
+      all_entries s = (is_entries s).1.0.1
 
-      noted-to : (s : State) → Noted frames.now dom span es s.0 s.1.0
-      noted-to s = s.1.1.1.1.1
+      noted_to : (s : State) → Noted frames.now dom span es s.0 s.1.0
+      noted_to s = s.1.1.1.1.1
 
       abbrev Nearer : State → State → Type 0
       Nearer t s = n - t.0 < n - s.0
 
-      nearer-wf : WellFounded Nearer
-      nearer-wf = InvImage.wf (λ (s : State). n - s.0) lt-wf_rel.wf
+      nearer_wf : WellFounded Nearer
+      nearer_wf = InvImage.wf (λ (s : State). n - s.0) lt-wf_rel.wf
 
       module _
           (𝓣 : Tables 𝓤 H) (fm : FmC 𝓤 H 𝓛.laws 𝓣.C) (known-note : Triple 𝓤 (𝓣.C #note) (Note 𝓛 mem run))
@@ -356,8 +356,8 @@ module _
               assigns ! (addr ! (from ! (stop !))) (from ! (stop !)) (init ! 4 refl (tt, tt)) $
               assigns ! (agg ! (and_then ! (load ! (from ! (stop !)) (look ! 4 refl)) (and_then ! (lit ! tt) (no_more !))))
               (from ! (stop !)) (init ! 5 refl (tt, (tt, (record { fits = lit< tt }, tt)))) $
-              assigns ! (bin ! (load ! (from ! (stop !)) (look ! 1 refl)) (lit ! tt) (record { fits = offset-fits })) (from ! (stop !))
-              (init ! 6 refl (tt, record { fits = offset-fits })) $
+              assigns ! (bin ! (load ! (from ! (stop !)) (look ! 1 refl)) (lit ! tt) (record { fits = offset_fits })) (from ! (stop !))
+              (init ! 6 refl (tt, record { fits = offset_fits })) $
               assigns ! (bin ! (load ! (from ! (fld ! refl (stop !))) (look_in ! 14 (sub ! 0 refl (whole !))))
               (load ! (from ! (stop !)) (look ! 6 refl)) tt) (from ! (stop !)) (init ! 7 refl (tt, tt)) $
               rewrite ! 7 (λ (p : ℕ). ‵ (fat full_share ty_ptr l₁₅ 0 (vptr b p))) (sym (place_is 16 o i)) refl $
@@ -370,15 +370,15 @@ module _
               shut E.the_row (LL.vals E.the_type E'.the_laws) (named 1) κ₁ q₁ edges i (edge_of []) ! tt within q' $
               -- [what edges owns; κ₁'s token; _6; …; _0; κ₀'s, κ₂'s; what leaves and frames own; …]: wanted is lent
               move ! (2 ∷ []) $ lends_local u8 entries l₆ ! tt (named 0) xs (v ∷ []) tt (lit< tt, lit< tt) (uint_Makes 𝓛 w8)
-              (is-entries s) (λ ν δ.
+              (is_entries s) (λ ν δ.
               -- [ν's token; wanted, lent; what is kept of it; what edges owns; κ₁'s; _7; …; _0; κ₀'s, κ₂'s; what leaves and frames own; …]:
               -- what frames owns is had twice
               move ! (24 ∷ []) $ use1 𝓛 (‵ FramesOwn ⊛ ‵ FramesOwn) ((shr_slice_copy 𝓛 (named 2) κ₂ Frame).twice frames (fv ∷ [])) $
               split ! $ move ! (2 ∷ 24 ∷ 3 ∷ 0 ∷ []) $ group ! 4 $
-              use1 𝓛 (raw ((Note 𝓛 mem run).pre (to-note l₆ ν δ xs e))) (asks-note l₆ ν δ xs e is-e) $
+              use1 𝓛 (raw ((Note 𝓛 mem run).pre (to_note l₆ ν δ xs e))) (asks_note l₆ ν δ xs e is-e) $
               -- [what `note` asks; what frames owns; what is kept of wanted; what edges owns; κ₁'s token; _7; _10; _11; _12; _13; _14; _15;
               -- _16; _8; _9; _1; _2; _3; _4; _5; _0; κ₀'s; what leaves owns; …]
-              calls_at ! fm (Note 𝓛 mem run) known-note (to-note l₆ ν δ xs e)
+              calls_at ! fm (Note 𝓛 mem run) known-note (to_note l₆ ν δ xs e)
               (and_then ! (load ! (from ! (stop !)) (look ! 9 refl))
               (and_then ! (load ! (from ! (stop !)) (look ! 12 refl))
               (and_then ! (load ! (from ! (stop !)) (look ! 15 refl))
@@ -387,7 +387,7 @@ module _
               use1 𝓛 (later (some (λ (r : Unit {0}). ((‵ (flft (ν ∷ []) full_share) ⊛ (‵ (flft κ₂ q₂) ⊛ ‵ ftrue)) ⊛ ‵ (unit.own_val r (u ∷ [])))
               ⊛ raw (ensured 𝓛 note.ended (note.clauses 𝓛 mem run) (ν ∷ [], (κ₂, tt))
               (elements u8 entries l₆ δ xs, (e, (dom, (span, (frames, tt))))) tt r)))) (id⊢ 𝓤 _) $ await ! tt $ pick ! (λ r.
-              split ! $ move ! (1 ∷ []) $ use1 𝓛 (Left δ xs e) (says-note l₆ ν δ xs e r) $
+              split ! $ move ! (1 ∷ []) $ use1 𝓛 (Left δ xs e) (says_note l₆ ν δ xs e r) $
               pick ! (λ zs. learn ! (λ after. move ! (1 ∷ []) $ split ! $ move ! (1 ∷ []) $
               facts ! unit (Is unit) (shows 𝓛 unit) r (u ∷ []) (λ is-r.
               -- [the two tokens; the last entries; what frames owns; what is kept of wanted; what edges owns; κ₁'s; _7; _10; _11; …]
@@ -412,8 +412,8 @@ module _
                       add-one-le within,
                       (
                         is-zs,
-                        one-noted frames.now dom span es i xs zs (edge_of []) within (noted-to s)
-                            (λ m inside. after m (subst (λ (k : ℕ). m < k) (sym (all-entries s)) inside)),
+                        one_noted frames.now dom span es i xs zs (edge_of []) within (noted_to s)
+                            (λ m inside. after m (subst (λ (k : ℕ). m < k) (sym (all_entries s)) inside)),
                       ),
                     ),
                   ),
@@ -421,8 +421,8 @@ module _
               )
               (add-one-dec n i within)))))))))
             where
-              offset-fits : s.0 * 16 < 2 ^ 64
-              offset-fits = omega (arith, within, room.1)
+              offset_fits : s.0 * 16 < 2 ^ 64
+              offset_fits = omega (arith, within, room.1)
 
               next_fits : s.0 + 1 < 2 ^ 64
               next_fits = lt_of_le_of_lt (add-one-le within) room.0
@@ -458,11 +458,11 @@ module _
               leaves_loop ! (load ! (from ! (stop !)) (look ! 2 refl)) $
               exec ! C Λ En text.t-6 (at_ret En Post) $
               assigns ! (of_opd ! (load ! (from ! (stop !)) (look ! 0 refl))) (from ! (stop !))
-              (init ! 9 refl (typed xs v (is-entries s))) $
-              move ! (17 ∷ 20 ∷ []) $ use2 𝓛 (raw ((Compare 𝓛 mem run).pre (to-compare xs v))) (asks-compare xs v (is-entries s)) $
+              (init ! 9 refl (typed xs v (is_entries s))) $
+              move ! (17 ∷ 20 ∷ []) $ use2 𝓛 (raw ((Compare 𝓛 mem run).pre (to_compare xs v))) (asks_compare xs v (is_entries s)) $
               -- [what `compare` asks; _6; _7; _10; …; _16; _8; _9; _1; _2; _3; _4; _5; _0; κ₁'s and κ₂'s token; what edges and frames own;
               -- …]
-              calls_at ! fm (Compare 𝓛 mem run) known-compare (to-compare xs v)
+              calls_at ! fm (Compare 𝓛 mem run) known-compare (to_compare xs v)
               (and_then ! (load ! (from ! (stop !)) (look ! 12 refl))
               (and_then ! (load ! (from ! (stop !)) (look ! 13 refl))
               (and_then ! (load ! (from ! (stop !)) (look ! 14 refl))
@@ -470,7 +470,7 @@ module _
               use1 𝓛 (later (some (λ (r : Verdict). ((‵ (flft κ₀ q₀) ⊛ ‵ ftrue) ⊛ ‵ ((R.the_row).own_val r (u ∷ [])))
               ⊛ raw (ensured 𝓛 compare.ended (compare.clauses 𝓛 mem run) (κ₀, tt) (dom, (leaves, (span, (xs, tt)))) tt r))))
               (id⊢ 𝓤 _) $ await ! tt $ pick ! (λ r.
-              split ! $ move ! (1 ∷ []) $ use1 𝓛 (raw (fact 𝓤 (Compared xs r))) (says-compare xs r) $
+              split ! $ move ! (1 ∷ []) $ use1 𝓛 (raw (fact 𝓤 (Compared xs r))) (says_compare xs r) $
               heard ! (Compared xs r) (λ compared. split ! $ move ! (1 ∷ []) $
               -- [the result; κ₀'s token; _6; _7; _10; …; _16; _8; _9; _1; _2; _3; _4; _5; room for _0; κ₁'s and κ₂'s token; …]
               peeks ! R.the_row (Is R.the_row) (shows 𝓛 R.the_row) r (u ∷ []) (λ is-r.
@@ -481,7 +481,7 @@ module _
               keep ! (19 ∷ 24 ∷ 14 ∷ 25 ∷ 15 ∷ 26 ∷ 16 ∷ 27 ∷ 17 ∷ 28 ∷ 18 ∷ 29 ∷ 3 ∷ 30 ∷ 4 ∷ 31 ∷ 12 ∷ 32 ∷ 13 ∷ 33 ∷ 5 ∷ 34 ∷ 6 ∷ 35 ∷ 7
               ∷ 36 ∷ 8 ∷ 37 ∷ 9 ∷ 38 ∷ 10 ∷ 39 ∷ 11 ∷ 40 ∷ 0 ∷ 20 ∷ 21 ∷ 2 ∷ []) $
               freed r u (exits r u (compared
-              ∙ same-compared dom span _ _ leaves.now (all_noted frames.now dom span es i xs past (noted-to s))))))))
+              ∙ same_compared dom span _ _ leaves.now (all_noted frames.now dom span es i xs past (noted_to s))))))))
 
           turns : (s : State) → Sq 𝓛 (At s) (runs C Λ En text.turn-1 (any_q (Turned s)))
           turns s = go (ltb s.0 n) refl
@@ -491,7 +491,7 @@ module _
               go false test = ends s (ltb-false s.0 n test)
 
           looping : (s : State) → Sq 𝓛 (At s) (runs C Λ En text.t-5 (at_ret En Post))
-          looping s = first ! $ blocks ! $ loops ! 𝓣 Nearer nearer-wf At turns s
+          looping s = first ! $ blocks ! $ loops ! 𝓣 Nearer nearer_wf At turns s
 
       -- the MIR, up to the loop
       walk : (𝓣 : Tables 𝓤 H) → FmC 𝓤 H 𝓛.laws 𝓣.C → Triple 𝓤 (𝓣.C #unmapped) (Unmapped 𝓛 mem run)
@@ -515,11 +515,11 @@ module _
           pass1 ! (init ! 22 refl ((shr_slice_Lawful 𝓛 (named 2) κ₂ Frame).typed frames _ is-frames).0) $ pass0 ! $
           -- [_16; …; _15; …; _14; …; _13; …; _12; …; _11; …; _10; …; _9; …; _8; …; _7; …; _6; …; _5; …; _4; …; _3; …; _2; …; _1; …; _0; …;
           -- the tokens; what the parameters own]
-          use0 𝓛 (raw ((Unmapped 𝓛 mem run).pre ((tt, tt, tt, tt, tt), tt))) asks-unmapped $
+          use0 𝓛 (raw ((Unmapped 𝓛 mem run).pre ((tt, tt, tt, tt, tt), tt))) asks_unmapped $
           calls_at ! fm (Unmapped 𝓛 mem run) known-unmapped ((tt, tt, tt, tt, tt), tt) (no_more !) (λ u.
           use1 𝓛 (later (some (λ (r : List ℕ). (‵ ftrue ⊛ ‵ (Entries.own_val r (u ∷ [])))
           ⊛ raw (ensured 𝓛 unmapped.ended (unmapped.clauses 𝓛 mem run) tt tt tt r)))) (id⊢ 𝓤 _) $ await ! tt $ pick ! (λ r.
-          split ! $ move ! (1 ∷ []) $ use1 𝓛 (raw (fact 𝓤 (r ≡ replicate entries 0))) (says-unmapped r) $
+          split ! $ move ! (1 ∷ []) $ use1 𝓛 (raw (fact 𝓤 (r ≡ replicate entries 0))) (says_unmapped r) $
           heard ! (r ≡ replicate entries 0) (λ blank. split ! $ drop ! $
           facts ! Entries (Is Entries) (shows 𝓛 Entries) r (u ∷ []) (λ is-r.
           land ! (from ! (stop !)) (init ! 16 refl (typed r u is-r)) $
@@ -534,10 +534,10 @@ module _
           keep ! (28 ∷ 26 ∷ 20 ∷ 18 ∷ 16 ∷ 14 ∷ 12 ∷ 10 ∷ 8 ∷ 24 ∷ 22 ∷ 38 ∷ 36 ∷ 34 ∷ 32 ∷ 30 ∷ 40 ∷ 7 ∷ 6 ∷ 4 ∷ 3 ∷ 2 ∷ 0 ∷ 41 ∷ 39 ∷ 37
           ∷ 35 ∷ 33 ∷ 31 ∷ 29 ∷ 27 ∷ 25 ∷ 23 ∷ 21 ∷ 19 ∷ 17 ∷ 15 ∷ 13 ∷ 11 ∷ 9 ∷ []) $
           looping 𝓣 fm known-note known-compare is-edges.0.1 l₀ l₁ l₂ l₃ l₄ l₅ l₆ l₇ l₈ l₉ l₁₀ l₁₁ l₁₂ l₁₃ l₁₄ l₁₅ l₁₆
-          (0, (r, (u, (zero-le, (is-r, none-noted frames.now dom span es r blank))))))))))))))))))))))))))
+          (0, (r, (u, (zero-le, (is-r, none_noted frames.now dom span es r blank))))))))))))))))))))))))))
         where
-          asks-unmapped : ent 𝓤 (emp 𝓤) ((Unmapped 𝓛 mem run).pre ((tt, tt, tt, tt, tt), tt))
-          asks-unmapped = qed 𝓛 [] ∵ nothing ! $ nothing ! $ join ! $ frame ! $ done !
+          asks_unmapped : ent 𝓤 (emp 𝓤) ((Unmapped 𝓛 mem run).pre ((tt, tt, tt, tt, tt), tt))
+          asks_unmapped = qed 𝓛 [] ∵ nothing ! $ nothing ! $ join ! $ frame ! $ done !
 
 module _ {M : Type 1} {𝓤 : Ura M} (𝓛 : Logic 𝓤) (mem : Memory → SProp 𝓤) (run : Routine → Fun 𝓤)
     (𝓣 : Tables 𝓤 𝓛.H)
@@ -545,8 +545,8 @@ module _ {M : Type 1} {𝓤 : Ura M} (𝓛 : Logic 𝓤) (mem : Memory → SProp
     (known-compare : Triple 𝓤 (𝓣.C #compare) (Compare 𝓛 mem run)) where
   open 𝓛 use {H}
 
-  check-walks : Walks 𝓛 check.ended stayed (WpFn 𝓤 H 𝓣.C 𝓣.Λ code.function) (check.clauses 𝓛 mem run)
-  check-walks = walked 𝓛 check.ended stayed (check.clauses 𝓛 mem run) (WpFn 𝓤 H 𝓣.C 𝓣.Λ code.function)
+  check_walks : Walks 𝓛 check.ended stayed (WpFn 𝓤 H 𝓣.C 𝓣.Λ code.function) (check.clauses 𝓛 mem run)
+  check_walks = walked 𝓛 check.ended stayed (check.clauses 𝓛 mem run) (WpFn 𝓤 H 𝓣.C 𝓣.Λ code.function)
       (λ κs. (uint_vals w16, (shr_slice_vals, (EL.vals S.the_type S'.the_laws, (shr_slice_vals, (shr_slice_vals, tt))))))
       (λ κs. (
         uint_Tells w16,
@@ -564,18 +564,18 @@ module _ {M : Type 1} {𝓤 : Ura M} (𝓛 : Logic 𝓤) (mem : Memory → SProp
       are.0.1 are.1.1.0 𝓣 (fm_of 𝓤 H 𝓛.laws 𝓣) known-unmapped known-note known-compare are.1.0 are.1.1.1.0
       are.1.1.1.1.0))
 
-  check-meets : Meets 𝓛 check.signature (WpFn 𝓤 H 𝓣.C 𝓣.Λ code.function) (check.spec 𝓛 mem run)
-  check-meets = walk_Meets 𝓛 check.ended stayed
-      (dropped-go 𝓛 (check.ended).signature.params (check.ended).kept
+  check_meets : Meets 𝓛 check.signature (WpFn 𝓤 H 𝓣.C 𝓣.Λ code.function) (check.spec 𝓛 mem run)
+  check_meets = walk_Meets 𝓛 check.ended stayed
+      (dropped_go 𝓛 (check.ended).signature.params (check.ended).kept
       ((λ κs x f. refl), ((λ κs x f. refl), ((λ κs x f. refl), ((λ κs x f. refl), ((λ κs x f. refl), tt))))))
-      (check.clauses 𝓛 mem run) (WpFn 𝓤 H 𝓣.C 𝓣.Λ code.function) (WpFn-mono 𝓤 H 𝓛.laws 𝓣 code.function) check-walks
+      (check.clauses 𝓛 mem run) (WpFn 𝓤 H 𝓣.C 𝓣.Λ code.function) (WpFn-mono 𝓤 H 𝓛.laws 𝓣 code.function) check_walks
 
-pub check-exact-spec : {M : Type 1} → stated.statement M
+pub check_exact_spec : {M : Type 1} → stated.statement M
 unfolding code.routine tables_of
-check-exact-spec 𝓤 𝓛 𝓜 𝓡 =
+check_exact_spec 𝓤 𝓛 𝓜 𝓡 =
     entered 𝓤 𝓛.H (triple_of 𝓛 check.signature (check.spec 𝓛 𝓜.mem 𝓡.run))
     (tables 𝓤 𝓛.H 𝓜 𝓡 code.env).C (tables 𝓤 𝓛.H 𝓜 𝓡 code.env).Λ #check-exact code.function (code.unfolded 𝓤 𝓛.H 𝓜 𝓡)
-    (check-meets 𝓛 𝓜.mem 𝓡.run (tables_of 𝓤 𝓛.H 𝓜 (tables 𝓤 𝓛.H 𝓜 𝓡 code.env))
+    (check_meets 𝓛 𝓜.mem 𝓡.run (tables_of 𝓤 𝓛.H 𝓜 (tables 𝓤 𝓛.H 𝓜 𝓡 code.env))
     (cited 𝓤 𝓛.H (Unmapped 𝓛 𝓜.mem 𝓡.run) 𝓜 𝓡 code.env #unmapped unmapped-def.routine code.calls-expected::unmapped
     (unmapped-thm.met 𝓤 𝓛 𝓜 𝓡))
     (cited 𝓤 𝓛.H (Note 𝓛 𝓜.mem 𝓡.run) 𝓜 𝓡 code.env #note note-def.routine code.calls-expected::note (note-thm.met 𝓤 𝓛 𝓜 𝓡))

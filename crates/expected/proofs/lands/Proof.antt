@@ -11,52 +11,52 @@ use Rattle.expected.proofs.lands.Tie as tie
 counted : (c : tie.Else1) → let a = c.before.before.args in counts a.frames.now a.dom a.e ≡ true
 counted c = let v = c.before.counts in sym v.ensures ∙ not-false v.result c.if1.false
 
-counts-requires : tie.Need-counts-requires
-counts-requires c κs = search rules
+counts_requires : tie.Need-counts-requires
+counts_requires c κs = search rules
 
 returns : tie.Need-returns
 unfolding lands
 returns c = let v = c.before.counts in rw (sym v.ensures ∙ not-true v.result c.if1.true)
 
-span-of-table-requires : tie.Need-span-of-table-requires
-span-of-table-requires c κs = search rules
+span_of_table_requires : tie.Need-span-of-table-requires
+span_of_table_requires c κs = search rules
 
-enum-known-found : tie.Need-enum-known-found
-enum-known-found c = search rules
+enum_known_found : tie.Need-enum-known-found
+enum_known_found c = search rules
 
-code-requires : tie.Need-code-requires
-code-requires c κs = search rules
+code_requires : tie.Need-code-requires
+code_requires c κs = search rules
 
-code-requires-2 : tie.Need-code-requires-2
-code-requires-2 c κs = search rules
+code_requires_2 : tie.Need-code-requires-2
+code_requires_2 c κs = search rules
 
 enum_told : tie.Need-enum-told
 enum_told c = search rules
 
-returns-2 : tie.Need-returns-2
+returns_2 : tie.Need-returns-2
 unfolding lands
-returns-2 c =
+returns_2 c =
     let v = c.before in
     let found = v.before.before in
     let t = found.before.before in
     rw (counted t.before, sym t.span-of-table.ensures ∙ found.found.given.1, v.code.ensures, c.code2.ensures)
 
-returns-3 : tie.Need-returns-3
+returns_3 : tie.Need-returns-3
 unfolding lands
-returns-3 c =
+returns_3 c =
     let t = c.before.before in
     rw (counted t.before, sym t.span-of-table.ensures ∙ c.enum_told.given.1)
 
-pub lands-spec : {M : Type 1} → statement M
-lands-spec =
+pub lands_spec : {M : Type 1} → statement M
+lands_spec =
     tie.close
     (tie.spec
-    counts-requires
+    counts_requires
     returns
-    span-of-table-requires
-    enum-known-found
-    code-requires
-    code-requires-2
+    span_of_table_requires
+    enum_known_found
+    code_requires
+    code_requires_2
     enum_told
-    returns-2
-    returns-3)
+    returns_2
+    returns_3)

@@ -5,82 +5,82 @@ use mathlib.Core.Path.{◌≡◌, refl, sym, ◌∙◌}
 use native.Mathlib.Omega.{arith}
 use lib.ListN.{length, drop}
 use borrow.Author.Rules.{rules}
-use Rattle.layout.specs.Layout.{tableIf}
-use Rattle.exposed.specs.Exposed.{firstTable}
-use Rattle.exposed.proofs.First.{stops, goes_on, table_at, table-end}
+use Rattle.layout.specs.Layout.{table_if}
+use Rattle.exposed.specs.Exposed.{first_table}
+use Rattle.exposed.proofs.First.{stops, goes_on, table_at, table_end}
 use Rattle.exposed.proofs.first_table.Statement.{statement}
 use Rattle.exposed.proofs.first_table.Tie as tie
 
-abbrev invariant-loop : tie.invariant-loop
-invariant-loop ws ts i₀ i = firstTable ts ws ≡ firstTable (drop i ts) ws
+abbrev invariant_loop : tie.invariant-loop
+invariant_loop ws ts i₀ i = first_table ts ws ≡ first_table (drop i ts) ws
 
-abbrev decreases-loop : tie.decreases-loop
-decreases-loop ws ts i₀ i = length ts - i
+abbrev decreases_loop : tie.decreases-loop
+decreases_loop ws ts i₀ i = length ts - i
 
-loop-holds : tie.Need-loop-init invariant-loop decreases-loop
-loop-holds c = refl
+loop_holds : tie.Need-loop-init invariant_loop decreases_loop
+loop_holds c = refl
 
-mul-t : tie.Need-overflow-mul-t invariant-loop decreases-loop
-mul-t c = search rules
+mul_t : tie.Need-overflow-mul-t invariant_loop decreases_loop
+mul_t c = search rules
 
-array-copy-out-t : tie.Need-array-copy-out-t invariant-loop decreases-loop
-array-copy-out-t c = search rules
+array_copy_out_t : tie.Need-array-copy-out-t invariant_loop decreases_loop
+array_copy_out_t c = search rules
 
-first-window-requires : tie.Need-first-window-requires invariant-loop decreases-loop
-first-window-requires c κs = search rules
+first_window_requires : tie.Need-first-window-requires invariant_loop decreases_loop
+first_window_requires c κs = search rules
 
-enum_told : tie.Need-enum-told invariant-loop decreases-loop
+enum_told : tie.Need-enum-told invariant_loop decreases_loop
 enum_told c = search rules
 
-enum-told-2 : tie.Need-enum-told-2 invariant-loop decreases-loop
-enum-told-2 c = search rules
+enum_told_2 : tie.Need-enum-told-2 invariant_loop decreases_loop
+enum_told_2 c = search rules
 
-returns : tie.Need-returns invariant-loop decreases-loop
+returns : tie.Need-returns invariant_loop decreases_loop
 returns c =
     let v = c.before.before in
     let h = v.before.before.before in
     let s = h.before in
     let inside : h.loop.i < length s.args.t1 = omega (arith, s.well-formed.0.1.0.1) in
-    let here = table_at s.args.t1 s.args.ws h.loop.i (tableIf 0 false 0) inside in
+    let here = table_at s.args.t1 s.args.ws h.loop.i (table_if 0 false 0) inside in
     let lies = c.enum-told2.given in
     stops v.first-window.result _ _ lies.0.0 lies.0.1.0 v.first-window.ensures lies.1 ∙ sym (h.loop.invariant ∙ here)
 
-add-i : tie.Need-overflow-add-i invariant-loop decreases-loop
-add-i c = search rules
+add_i : tie.Need-overflow-add-i invariant_loop decreases_loop
+add_i c = search rules
 
-loop-less : tie.Need-loop-smaller invariant-loop decreases-loop
-loop-less c = omega (arith, c.before.before.before.before.before.before.well-formed.0.1.0.1)
+loop_less : tie.Need-loop-smaller invariant_loop decreases_loop
+loop_less c = omega (arith, c.before.before.before.before.before.before.well-formed.0.1.0.1)
 
-loop-again : tie.Need-loop-preserved invariant-loop decreases-loop
-loop-again c =
+loop_again : tie.Need-loop-preserved invariant_loop decreases_loop
+loop_again c =
     let v = c.before.before in
     let h = v.before.before.before in
     let s = h.before in
     let inside : h.loop.i < length s.args.t1 = omega (arith, s.well-formed.0.1.0.1) in
-    let here = table_at s.args.t1 s.args.ws h.loop.i (tableIf 0 false 0) inside in
+    let here = table_at s.args.t1 s.args.ws h.loop.i (table_if 0 false 0) inside in
     h.loop.invariant ∙ here ∙ goes_on v.first-window.result _ _ v.first-window.ensures c.enum_told.given.1
 
-returns-2 : tie.Need-returns-2 invariant-loop decreases-loop
-returns-2 c =
+returns_2 : tie.Need-returns-2 invariant_loop decreases_loop
+returns_2 c =
     let h = c.before in
     let s = h.before in
     let outside : length s.args.t1 ≤ h.loop.i = omega (arith, s.well-formed.0.1.0.1) in
-    sym (h.loop.invariant ∙ table-end s.args.t1 s.args.ws h.loop.i outside)
+    sym (h.loop.invariant ∙ table_end s.args.t1 s.args.ws h.loop.i outside)
 
-pub first-table-spec : {M : Type 1} → statement M
-first-table-spec =
+pub first_table_spec : {M : Type 1} → statement M
+first_table_spec =
     tie.close
     (tie.spec
-    invariant-loop
-    decreases-loop
-    loop-holds
-    mul-t
-    array-copy-out-t
-    first-window-requires
+    invariant_loop
+    decreases_loop
+    loop_holds
+    mul_t
+    array_copy_out_t
+    first_window_requires
     enum_told
-    enum-told-2
+    enum_told_2
     returns
-    add-i
-    loop-less
-    loop-again
-    returns-2)
+    add_i
+    loop_less
+    loop_again
+    returns_2)

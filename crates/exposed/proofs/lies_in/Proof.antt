@@ -18,20 +18,20 @@ moved p t s h = go (ltb (t - p) s) refl
 returns : tie.Need-returns
 returns c = rw (not-true c.before.before.args.t.present c.if1.true)
 
-returns-2 : tie.Need-returns-2
-returns-2 c =
+returns_2 : tie.Need-returns-2
+returns_2 c =
     let t = c.before.before in
     let a = t.before.before.args in rw (not-false a.t.present t.if1.false, not-true a.w.present c.if2.true)
 
-returns-3 : tie.Need-returns-3
-returns-3 c =
+returns_3 : tie.Need-returns-3
+returns_3 c =
     let w = c.before.before.before in
     let t = w.before.before in
     let a = t.before.before.args in
     rw (not-false a.t.present t.if1.false, not-false a.w.present w.if2.false, lt-leb _ _ c.if3.true)
 
-returns-4 : tie.Need-returns-4
-returns-4 c =
+returns_4 : tie.Need-returns-4
+returns_4 c =
     let f = c.before.before.before in
     let w = f.before.before.before in
     let t = w.before.before in
@@ -39,5 +39,5 @@ returns-4 c =
     rw (not-false a.t.present t.if1.false, not-false a.w.present w.if2.false, le-leb _ _ f.if3.false)
     (moved a.w.pa a.t.pa a.w.span f.if3.false)
 
-pub lies-in-spec : {M : Type 1} → statement M
-lies-in-spec = tie.close (tie.spec returns returns-2 returns-3 returns-4)
+pub lies_in_spec : {M : Type 1} → statement M
+lies_in_spec = tie.close (tie.spec returns returns_2 returns_3 returns_4)

@@ -6,41 +6,41 @@ use native.Mathlib.Omega.{arith}
 use lib.ListN.{length, set, drop, replicate, length-set}
 use lib.Seq.{drop-length}
 use borrow.Author.Rules.{rules}
-use Rattle.filling.proofs.Zeros.{zeros-next}
+use Rattle.filling.proofs.Zeros.{zeros_next}
 use Rattle.filling.proofs.clear.Statement.{statement}
 use Rattle.filling.proofs.clear.Tie as tie
 
-abbrev invariant-loop : tie.invariant-loop
-invariant-loop map₀ i₀ i-end map i = (i ≤ length map₀) × (map ≡ replicate i 0 ++ drop i map₀) × (length map ≡ length map₀)
+abbrev invariant_loop : tie.invariant-loop
+invariant_loop map₀ i₀ i-end map i = (i ≤ length map₀) × (map ≡ replicate i 0 ++ drop i map₀) × (length map ≡ length map₀)
 
-abbrev decreases-loop : tie.decreases-loop
-decreases-loop map₀ i₀ i-end map i = i-end - i
+abbrev decreases_loop : tie.decreases-loop
+decreases_loop map₀ i₀ i-end map i = i-end - i
 
-loop-holds : tie.Need-loop-init invariant-loop decreases-loop
-loop-holds c = (zero-le, refl, refl)
+loop_holds : tie.Need-loop-init invariant_loop decreases_loop
+loop_holds c = (zero-le, refl, refl)
 
-slice-write-map : tie.Need-slice-write-map invariant-loop decreases-loop
-slice-write-map c = search rules
+slice_write_map : tie.Need-slice-write-map invariant_loop decreases_loop
+slice_write_map c = search rules
 
-add-i : tie.Need-overflow-add-i invariant-loop decreases-loop
-add-i c = search rules
+add_i : tie.Need-overflow-add-i invariant_loop decreases_loop
+add_i c = search rules
 
-loop-less : tie.Need-loop-smaller invariant-loop decreases-loop
-loop-less c = search rules
+loop_less : tie.Need-loop-smaller invariant_loop decreases_loop
+loop_less c = search rules
 
-loop-again : tie.Need-loop-preserved invariant-loop decreases-loop
-loop-again c =
+loop_again : tie.Need-loop-preserved invariant_loop decreases_loop
+loop_again c =
     let h = c.before in
     let xs = h.before.args.map.now in (
       omega arith,
-      ap (λ (l : List ℕ). set l h.loop.i 0) h.loop.invariant.1 ∙ zeros-next xs h.loop.i c.loop-test.true,
+      ap (λ (l : List ℕ). set l h.loop.i 0) h.loop.invariant.1 ∙ zeros_next xs h.loop.i c.loop-test.true,
       length-set h.loop.map h.loop.i 0 ∙ h.loop.invariant.2,
     )
 
-same_length : tie.Need-same-length invariant-loop decreases-loop
+same_length : tie.Need-same-length invariant_loop decreases_loop
 same_length c = search rules
 
-returns : tie.Need-returns invariant-loop decreases-loop
+returns : tie.Need-returns invariant_loop decreases_loop
 returns c =
     let h = c.before in
     let xs = h.before.args.map.now in
@@ -51,12 +51,12 @@ pub clear_spec : {M : Type 1} → statement M
 clear_spec =
     tie.close
     (tie.spec
-    invariant-loop
-    decreases-loop
-    loop-holds
-    slice-write-map
-    add-i
-    loop-less
-    loop-again
+    invariant_loop
+    decreases_loop
+    loop_holds
+    slice_write_map
+    add_i
+    loop_less
+    loop_again
     same_length
     returns)

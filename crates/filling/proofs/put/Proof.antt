@@ -5,32 +5,32 @@ use Rattle.filling.specs.Filling.{put_in}
 use Rattle.filling.proofs.put.Statement.{statement}
 use Rattle.filling.proofs.put.Tie as tie
 
-cast-child : tie.Need-overflow-cast-child
-cast-child c = search rules
+cast_child : tie.Need-overflow-cast-child
+cast_child c = search rules
 
 returns : tie.Need-returns
 unfolding put_in
 returns c = simp (le-ltb _ _ c.if1.true)
 
-perm-requires : tie.Need-perm-requires
-perm-requires c κs = search rules
+perm_requires : tie.Need-perm-requires
+perm_requires c κs = search rules
 
-code-requires : tie.Need-code-requires
-code-requires c κs = search rules
+code_requires : tie.Need-code-requires
+code_requires c κs = search rules
 
-slice-write-map : tie.Need-slice-write-map
-slice-write-map c = search rules
+slice_write_map : tie.Need-slice-write-map
+slice_write_map c = search rules
 
 same_length : tie.Need-same-length
 same_length c = search rules
 
-returns-2 : tie.Need-returns-2
+returns_2 : tie.Need-returns-2
 unfolding put_in
-returns-2 c =
+returns_2 c =
     let p = c.before in
     rw (lt-ltb _ _ p.before.if1.false, c.code.ensures, p.perm.ensures)
 
 pub put_spec : {M : Type 1} → statement M
 put_spec =
     tie.close
-    (tie.spec cast-child returns perm-requires code-requires slice-write-map same_length returns-2)
+    (tie.spec cast_child returns perm_requires code_requires slice_write_map same_length returns_2)

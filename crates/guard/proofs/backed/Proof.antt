@@ -5,39 +5,39 @@ use mathlib.Core.Path.{◌≡◌, refl, sym, ◌∙◌}
 use lib.ListN.{drop}
 use borrow.Author.Rules.{rules}
 use borrow.Author.Tests.{eq-eqb, ne_eqb, le-leb, lt-leb}
-use Rattle.refusal.proofs.None.{accept, from-nowhere}
+use Rattle.refusal.proofs.None.{accept, from_nowhere}
 use Rattle.refusal.proofs.Parts.{from_at, from_end}
-use Rattle.refusal.specs.Table.{first, eachFrom}
+use Rattle.refusal.specs.Table.{first, each_from}
 use Rattle.rows.specs.Rows.{row14}
 use Rattle.guard.proofs.backed.Statement.{statement}
 use Rattle.guard.proofs.backed.Tie as tie
 
-abbrev invariant-loop : tie.invariant-loop
-invariant-loop sup-frames sup i₀ i-end i =
-    first (eachFrom (row14 sup-frames) 0 sup) ≡ first (eachFrom (row14 sup-frames) i (drop i sup))
+abbrev invariant_loop : tie.invariant-loop
+invariant_loop sup-frames sup i₀ i-end i =
+    first (each_from (row14 sup-frames) 0 sup) ≡ first (each_from (row14 sup-frames) i (drop i sup))
 
-abbrev decreases-loop : tie.decreases-loop
-decreases-loop sup-frames sup i₀ i-end i = i-end - i
+abbrev decreases_loop : tie.decreases-loop
+decreases_loop sup-frames sup i₀ i-end i = i-end - i
 
-unmapped-from-requires : tie.Need-unmapped-from-requires invariant-loop decreases-loop
-unmapped-from-requires c κs = search rules
+unmapped_from_requires : tie.Need-unmapped-from-requires invariant_loop decreases_loop
+unmapped_from_requires c κs = search rules
 
-returns : tie.Need-returns invariant-loop decreases-loop
+returns : tie.Need-returns invariant_loop decreases_loop
 returns c =
     let v = c.before in
     let a = v.before.before.args in
     let none = v.unmapped-from.ensures c.if1.true in
-    sym (accept _ (from-nowhere (row14 a.sup-frames) a.sup.now 0 (λ p inside. none p)))
+    sym (accept _ (from_nowhere (row14 a.sup-frames) a.sup.now 0 (λ p inside. none p)))
 
-loop-holds : tie.Need-loop-init invariant-loop decreases-loop
-loop-holds c = refl
+loop_holds : tie.Need-loop-init invariant_loop decreases_loop
+loop_holds c = refl
 
-shared-slice-read-if2 : tie.Need-shared-slice-read-if2 invariant-loop decreases-loop
-shared-slice-read-if2 c = search rules
+shared_slice_read_if2 : tie.Need-shared-slice-read-if2 invariant_loop decreases_loop
+shared_slice_read_if2 c = search rules
 
-returns-2 : tie.Need-returns-2 invariant-loop decreases-loop
+returns_2 : tie.Need-returns-2 invariant_loop decreases_loop
 unfolding row14 first
-returns-2 c =
+returns_2 c =
     let d = c.before in
     let turn = d.before.before in
     let h = turn.before in
@@ -45,15 +45,15 @@ returns-2 c =
     let here = from_at a.sup.now h.loop.i 0 turn.loop-test.true (row14 a.sup-frames) in
     rw (h.loop.invariant, here, ne_eqb _ _ d.if2.true, le-leb _ _ c.if3.true)
 
-add-i : tie.Need-overflow-add-i invariant-loop decreases-loop
-add-i c = search rules
+add_i : tie.Need-overflow-add-i invariant_loop decreases_loop
+add_i c = search rules
 
-loop-less : tie.Need-loop-smaller invariant-loop decreases-loop
-loop-less c = search rules
+loop_less : tie.Need-loop-smaller invariant_loop decreases_loop
+loop_less c = search rules
 
-loop-again : tie.Need-loop-preserved invariant-loop decreases-loop
+loop_again : tie.Need-loop-preserved invariant_loop decreases_loop
 unfolding row14
-loop-again c =
+loop_again c =
     let turn = c.before.before in
     let h = turn.before in
     let a = h.before.before.before.before.args in
@@ -62,24 +62,24 @@ loop-again c =
     (λ w. rw (h.loop.invariant, here, eq-eqb _ _ w.left))
     c.if2.branch
 
-returns-3 : tie.Need-returns-3 invariant-loop decreases-loop
-returns-3 c =
+returns_3 : tie.Need-returns-3 invariant_loop decreases_loop
+returns_3 c =
     let h = c.before in
     let a = h.before.before.before.before.args in
     from_end a.sup.now h.loop.i c.loop-test.false (row14 a.sup-frames) ∙ sym h.loop.invariant
 
-pub backed-spec : {M : Type 1} → statement M
-backed-spec =
+pub backed_spec : {M : Type 1} → statement M
+backed_spec =
     tie.close
     (tie.spec
-    invariant-loop
-    decreases-loop
-    unmapped-from-requires
+    invariant_loop
+    decreases_loop
+    unmapped_from_requires
     returns
-    loop-holds
-    shared-slice-read-if2
-    returns-2
-    add-i
-    loop-less
-    loop-again
-    returns-3)
+    loop_holds
+    shared_slice_read_if2
+    returns_2
+    add_i
+    loop_less
+    loop_again
+    returns_3)

@@ -9,28 +9,28 @@ returns : tie.Need-returns
 unfolding row13 first
 returns c = simp (not-true c.before.before.args.s.present c.if1.true)
 
-returns-2 : tie.Need-returns-2
+returns_2 : tie.Need-returns-2
 unfolding row13 first
-returns-2 c =
+returns_2 c =
     let s = c.before.before in
     let a = s.before.before.args in
     simp (not-false a.s.present s.if1.false, not-true a.t.present c.if2.true)
 
-returns-3 : tie.Need-returns-3
+returns_3 : tie.Need-returns-3
 unfolding row13 first
-returns-3 c =
+returns_3 c =
     let t = c.before.before.before in
     let s = t.before.before in
     let a = s.before.before.args in
     simp (not-false a.s.present s.if1.false, not-false a.t.present t.if2.false, eq-eqb _ _ c.if3.true)
 
-returns-4 : tie.Need-returns-4
+returns_4 : tie.Need-returns-4
 unfolding row13 first
-returns-4 c =
+returns_4 c =
     let t = c.before.before.before in
     let s = t.before.before in
     let a = s.before.before.args in
     simp (not-false a.s.present s.if1.false, not-false a.t.present t.if2.false, ne_eqb _ _ c.if3.false)
 
-pub distinct-spec : {M : Type 1} → statement M
-distinct-spec = tie.close (tie.spec returns returns-2 returns-3 returns-4)
+pub distinct_spec : {M : Type 1} → statement M
+distinct_spec = tie.close (tie.spec returns returns_2 returns_3 returns_4)

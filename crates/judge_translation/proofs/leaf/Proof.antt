@@ -8,18 +8,18 @@ use Rattle.judge_translation.proofs.leaf.Tie as tie
 returns : tie.Need-returns
 returns c = rw (ne_eqb _ _ c.if1.true)
 
-permits-requires : tie.Need-permits-requires
-permits-requires c κs = search rules
+permits_requires : tie.Need-permits-requires
+permits_requires c κs = search rules
 
-returns-2 : tie.Need-returns-2
-returns-2 c =
+returns_2 : tie.Need-returns-2
+returns_2 c =
     let v = c.before in
     rw (eq-eqb _ _ v.before.if1.false, sym v.permits.ensures ∙ c.if2.true)
 
-returns-3 : tie.Need-returns-3
-returns-3 c =
+returns_3 : tie.Need-returns-3
+returns_3 c =
     let v = c.before in
     rw (eq-eqb _ _ v.before.if1.false, sym v.permits.ensures ∙ c.if2.false)
 
-pub leaf-spec : {M : Type 1} → statement M
-leaf-spec = tie.close (tie.spec returns permits-requires returns-2 returns-3)
+pub leaf_spec : {M : Type 1} → statement M
+leaf_spec = tie.close (tie.spec returns permits_requires returns_2 returns_3)

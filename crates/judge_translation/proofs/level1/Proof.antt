@@ -2,21 +2,21 @@
 use Prim.Native.Nat.{ℕ}
 use mathlib.Core.Path.{◌∙◌, sym, ap}
 use borrow.Author.Rules.{rules}
-use Rattle.decode.proofs.Fields.{has-type, not-type}
+use Rattle.decode.proofs.Fields.{has_type, not_type}
 use Rattle.manual.specs.Translation.{leaf, level1}
-use Rattle.judge_translation.specs.Answer.{accessNumbered}
-use Rattle.judge_translation.proofs.Outputs.{table-named, large-output}
+use Rattle.judge_translation.specs.Answer.{access_numbered}
+use Rattle.judge_translation.proofs.Outputs.{table_named, large_output}
 use Rattle.judge_translation.proofs.level1.Statement.{statement}
 use Rattle.judge_translation.proofs.level1.Tie as tie
 
-lookup-requires : tie.Need-lookup-requires
-lookup-requires c κs = search rules
+lookup_requires : tie.Need-lookup-requires
+lookup_requires c κs = search rules
 
 mul_next : tie.Need-overflow-mul-next
 mul_next c = search rules
 
-level2-requires : tie.Need-level2-requires
-level2-requires c κs = search rules
+level2_requires : tie.Need-level2-requires
+level2_requires c κs = search rules
 
 returns : tie.Need-returns
 unfolding level1
@@ -24,47 +24,47 @@ returns c =
     let e = c.before in
     let v = e.before in
     let d = v.lookup.result in
-    c.level2.ensures ∙ rw (table-named d, sym v.lookup.ensures, has-type d 3 e.if1.true)
+    c.level2.ensures ∙ rw (table_named d, sym v.lookup.ensures, has_type d 3 e.if1.true)
 
-returns-2 : tie.Need-returns-2
+returns_2 : tie.Need-returns-2
 unfolding level1
-returns-2 c =
+returns_2 c =
     let e = c.before in
     let v = e.before in
     let d = v.lookup.result in
-    rw (sym v.lookup.ensures, not-type d 3 e.if1.false, not-type d 1 c.if2.true)
+    rw (sym v.lookup.ensures, not_type d 3 e.if1.false, not_type d 1 c.if2.true)
 
-mul-first : tie.Need-overflow-mul-first
-mul-first c = search rules
+mul_first : tie.Need-overflow-mul-first
+mul_first c = search rules
 
-add-leaf : tie.Need-overflow-add-leaf
-add-leaf c = search rules
+add_leaf : tie.Need-overflow-add-leaf
+add_leaf c = search rules
 
-leaf-requires : tie.Need-leaf-requires
-leaf-requires c κs = search rules
+leaf_requires : tie.Need-leaf-requires
+leaf_requires c κs = search rules
 
-returns-3 : tie.Need-returns-3
+returns_3 : tie.Need-returns-3
 unfolding level1
-returns-3 c =
+returns_3 c =
     let f = c.before in
     let e = f.before in
     let v = e.before in
     let d = v.lookup.result in
     let a = v.before.before.before.args in
     c.leaf.ensures
-    ∙ ap (λ (output : ℕ). leaf a.xnx (accessNumbered a.access) output d) (large-output d a.ipa)
-    ∙ rw (sym v.lookup.ensures, not-type d 3 e.if1.false, has-type d 1 f.if2.false)
+    ∙ ap (λ (output : ℕ). leaf a.xnx (access_numbered a.access) output d) (large_output d a.ipa)
+    ∙ rw (sym v.lookup.ensures, not_type d 3 e.if1.false, has_type d 1 f.if2.false)
 
-pub level1-spec : {M : Type 1} → statement M
-level1-spec =
+pub level1_spec : {M : Type 1} → statement M
+level1_spec =
     tie.close
     (tie.spec
-    lookup-requires
+    lookup_requires
     mul_next
-    level2-requires
+    level2_requires
     returns
-    returns-2
-    mul-first
-    add-leaf
-    leaf-requires
-    returns-3)
+    returns_2
+    mul_first
+    add_leaf
+    leaf_requires
+    returns_3)

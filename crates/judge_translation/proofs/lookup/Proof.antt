@@ -5,96 +5,96 @@ use native.Mathlib.Omega.{arith}
 use lib.ListN.{drop}
 use borrow.Author.Rules.{rules}
 use borrow.Author.Tests.{eq-eqb, ne_eqb}
-use Rattle.descent.proofs.Fetch.{fetch-at, fetch-end}
-use Rattle.descent.specs.Descent.{words_of, fetchFrom, fetch}
-use Rattle.judge_translation.specs.Answer.{elsewhereOf}
+use Rattle.descent.proofs.Fetch.{fetch_at, fetch_end}
+use Rattle.descent.specs.Descent.{words_of, fetch_from, fetch}
+use Rattle.judge_translation.specs.Answer.{elsewhere_of}
 use Rattle.judge_translation.proofs.lookup.Statement.{statement}
 use Rattle.judge_translation.proofs.lookup.Tie as tie
-use Rattle.layout.specs.Size.{entries, tableCount}
+use Rattle.layout.specs.Size.{entries, table_count}
 
-abbrev invariant-loop : tie.invariant-loop
-invariant-loop arena tables places named index t₀ t =
-    fetch (elsewhereOf places named index) tables (words_of arena) named index
-    ≡ fetchFrom (t * entries) (elsewhereOf places named index) (drop t tables) (words_of arena) named index
+abbrev invariant_loop : tie.invariant-loop
+invariant_loop arena tables places named index t₀ t =
+    fetch (elsewhere_of places named index) tables (words_of arena) named index
+    ≡ fetch_from (t * entries) (elsewhere_of places named index) (drop t tables) (words_of arena) named index
 
-abbrev decreases-loop : tie.decreases-loop
-decreases-loop arena tables places named index t₀ t = tableCount - t
+abbrev decreases_loop : tie.decreases-loop
+decreases_loop arena tables places named index t₀ t = table_count - t
 
-loop-holds : tie.Need-loop-init invariant-loop decreases-loop
-loop-holds c = refl
+loop_holds : tie.Need-loop-init invariant_loop decreases_loop
+loop_holds c = refl
 
-mul-if1 : tie.Need-overflow-mul-if1 invariant-loop decreases-loop
-mul-if1 c = search rules
+mul_if1 : tie.Need-overflow-mul-if1 invariant_loop decreases_loop
+mul_if1 c = search rules
 
-shared-slice-read-if1 : tie.Need-shared-slice-read-if1 invariant-loop decreases-loop
-shared-slice-read-if1 c = search rules
+shared_slice_read_if1 : tie.Need-shared-slice-read-if1 invariant_loop decreases_loop
+shared_slice_read_if1 c = search rules
 
-mul-word-at : tie.Need-overflow-mul-word-at invariant-loop decreases-loop
-mul-word-at c = search rules
+mul_word_at : tie.Need-overflow-mul-word-at invariant_loop decreases_loop
+mul_word_at c = search rules
 
-add-word-at : tie.Need-overflow-add-word-at invariant-loop decreases-loop
-add-word-at c = search rules
+add_word_at : tie.Need-overflow-add-word-at invariant_loop decreases_loop
+add_word_at c = search rules
 
-word-at-requires : tie.Need-word-at-requires invariant-loop decreases-loop
-word-at-requires c κs = search rules
+word_at_requires : tie.Need-word-at-requires invariant_loop decreases_loop
+word_at_requires c κs = search rules
 
-returns : tie.Need-returns invariant-loop decreases-loop
+returns : tie.Need-returns invariant_loop decreases_loop
 returns c =
     let h = c.before.before.before.before in
     let s = h.before.before.before in
     let a = s.args in
-    let outside = elsewhereOf a.places.now a.named a.index in
-    let here = fetch-at (h.loop.t * entries) outside a.tables.now h.loop.t (words_of a.arena.now) a.named a.index
+    let outside = elsewhere_of a.places.now a.named a.index in
+    let here = fetch_at (h.loop.t * entries) outside a.tables.now h.loop.t (words_of a.arena.now) a.named a.index
     (omega (arith, s.requires)) in
     c.word-at.ensures ∙ sym (h.loop.invariant ∙ here ∙ simp (eq-eqb _ _ c.before.if1.true))
 
-add-t : tie.Need-overflow-add-t invariant-loop decreases-loop
-add-t c = search rules
+add_t : tie.Need-overflow-add-t invariant_loop decreases_loop
+add_t c = search rules
 
-loop-less : tie.Need-loop-smaller invariant-loop decreases-loop
-loop-less c = search rules
+loop_less : tie.Need-loop-smaller invariant_loop decreases_loop
+loop_less c = search rules
 
-loop-again : tie.Need-loop-preserved invariant-loop decreases-loop
-loop-again c =
+loop_again : tie.Need-loop-preserved invariant_loop decreases_loop
+loop_again c =
     let h = c.before.before.before in
     let s = h.before.before.before in
     let a = s.args in
-    let outside = elsewhereOf a.places.now a.named a.index in
-    let here = fetch-at (h.loop.t * entries) outside a.tables.now h.loop.t (words_of a.arena.now) a.named a.index
+    let outside = elsewhere_of a.places.now a.named a.index in
+    let here = fetch_at (h.loop.t * entries) outside a.tables.now h.loop.t (words_of a.arena.now) a.named a.index
     (omega (arith, s.requires)) in
     let next : h.loop.t * entries + entries ≡ (h.loop.t + 1) * entries = omega arith in
     h.loop.invariant ∙ here ∙ simp (ne_eqb _ _ c.if1.false, next)
 
-elsewhere-requires : tie.Need-elsewhere-requires invariant-loop decreases-loop
-elsewhere-requires c κs = search rules
+elsewhere_requires : tie.Need-elsewhere-requires invariant_loop decreases_loop
+elsewhere_requires c κs = search rules
 
-returns-2 : tie.Need-returns-2 invariant-loop decreases-loop
-returns-2 c =
+returns_2 : tie.Need-returns-2 invariant_loop decreases_loop
+returns_2 c =
     let h = c.before.before in
     let s = h.before.before.before in
     let a = s.args in
-    let outside = elsewhereOf a.places.now a.named a.index in
+    let outside = elsewhere_of a.places.now a.named a.index in
     c.elsewhere.ensures
     ∙ sym
     (h.loop.invariant
-    ∙ fetch-end (h.loop.t * entries) outside a.tables.now h.loop.t (words_of a.arena.now) a.named a.index
+    ∙ fetch_end (h.loop.t * entries) outside a.tables.now h.loop.t (words_of a.arena.now) a.named a.index
     (omega (arith, s.requires)))
 
-pub lookup-spec : {M : Type 1} → statement M
-lookup-spec =
+pub lookup_spec : {M : Type 1} → statement M
+lookup_spec =
     tie.close
     (tie.spec
-    invariant-loop
-    decreases-loop
-    loop-holds
-    mul-if1
-    shared-slice-read-if1
-    mul-word-at
-    add-word-at
-    word-at-requires
+    invariant_loop
+    decreases_loop
+    loop_holds
+    mul_if1
+    shared_slice_read_if1
+    mul_word_at
+    add_word_at
+    word_at_requires
     returns
-    add-t
-    loop-less
-    loop-again
-    elsewhere-requires
-    returns-2)
+    add_t
+    loop_less
+    loop_again
+    elsewhere_requires
+    returns_2)

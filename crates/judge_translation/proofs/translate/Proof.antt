@@ -10,15 +10,15 @@ returns : tie.Need-returns
 unfolding translation
 returns c = rw (le-ltb _ _ c.if1.true)
 
-shared-slice-read-level1 : tie.Need-shared-slice-read-level1
-shared-slice-read-level1 c = search rules
+shared_slice_read_level1 : tie.Need-shared-slice-read-level1
+shared_slice_read_level1 c = search rules
 
-level1-requires : tie.Need-level1-requires
-level1-requires c κs = search rules
+level1_requires : tie.Need-level1-requires
+level1_requires c κs = search rules
 
-returns-2 : tie.Need-returns-2
+returns_2 : tie.Need-returns-2
 unfolding translation
-returns-2 c = c.level1.ensures ∙ rw (lt-ltb _ _ c.before.before.if1.false)
+returns_2 c = c.level1.ensures ∙ rw (lt-ltb _ _ c.before.before.if1.false)
 
-pub translate-spec : {M : Type 1} → statement M
-translate-spec = tie.close (tie.spec returns shared-slice-read-level1 level1-requires returns-2)
+pub translate_spec : {M : Type 1} → statement M
+translate_spec = tie.close (tie.spec returns shared_slice_read_level1 level1_requires returns_2)

@@ -61,11 +61,11 @@ use Rattle.lending.proofs.Element.{element, shut}
 use Rattle.lending.proofs.Lent.{renamed, holding, lends, back, shares, unshares}
 use Rattle.edge.specs.Edge.{edge_of}
 use Rattle.edge.specs.declared.Edge.{Edge}
-use Rattle.filling.specs.Filling.{filling, placedNext, placedAll, onward, conflicts, started, filled}
-use Rattle.filling.specs.Progress.{fillingAt}
+use Rattle.filling.specs.Filling.{filling, placed_next, placed_all, onward, conflicts, started, filled}
+use Rattle.filling.specs.Progress.{filling_at}
 use Rattle.filling.specs.declared.Progress.{Progress}
 use Rattle.filling.proofs.SoFar.{PlacedTo, one_placed, all_placed}
-use Rattle.refusal.specs.Outcome.{outcomeOf}
+use Rattle.refusal.specs.Outcome.{outcome_of}
 use Rattle.refusal.specs.declared.Verdict.{Verdict}
 use Rattle.edge.specs.contracts.Edge as E
 use Rattle.edge.proofs.Edge.TheLaws as E'
@@ -79,7 +79,7 @@ use Rattle.filling.proofs.start.Symbol.{name as #start}
 use Rattle.filling.proofs.start.Met as start-thm
 use Rattle.filling.specs.contracts.place_next as next
 use Rattle.filling.proofs.place_next.Symbol as next-def
-use Rattle.filling.proofs.place_next.Symbol.{name as #place-next}
+use Rattle.filling.proofs.place_next.Symbol.{name as #place_next}
 use Rattle.filling.proofs.place_next.Met as next-thm
 use Rattle.filling.specs.contracts.finish as finish
 use Rattle.filling.proofs.finish.Symbol as finish-def
@@ -174,17 +174,17 @@ module _
     SupOwn ss = (MutSlice (named 3) κ₃ u8).own_val (holding u8 ss sup) (sv ∷ [])
 
     -- a map that is lent for ν under δ, with these entries
-    abbrev lent-base : GName → List ℕ → Map
-    lent-base δ bs = renamed u8 δ (holding u8 bs base)
+    abbrev lent_base : GName → List ℕ → Map
+    lent_base δ bs = renamed u8 δ (holding u8 bs base)
 
-    abbrev lent-sup : GName → List ℕ → Map
-    lent-sup δ ss = renamed u8 δ (holding u8 ss sup)
+    abbrev lent_sup : GName → List ℕ → Map
+    lent_sup δ ss = renamed u8 δ (holding u8 ss sup)
 
     abbrev LentBase : ℕ → GName → List ℕ → Fml
-    LentBase ν δ bs = (MutSlice (named 0) (ν ∷ []) u8).own_val (lent-base δ bs) (bv ∷ [])
+    LentBase ν δ bs = (MutSlice (named 0) (ν ∷ []) u8).own_val (lent_base δ bs) (bv ∷ [])
 
     abbrev LentSup : ℕ → GName → List ℕ → Fml
-    LentSup ν δ ss = (MutSlice (named 0) (ν ∷ []) u8).own_val (lent-sup δ ss) (sv ∷ [])
+    LentSup ν δ ss = (MutSlice (named 0) (ν ∷ []) u8).own_val (lent_sup δ ss) (sv ∷ [])
 
     -- what a call says of the maps that it was lent under δ and ε: their last entries, of the same number
     abbrev Left : GName → GName → List ℕ → List ℕ → (List ℕ → List ℕ → Type 0) → Item 𝓤
@@ -210,50 +210,50 @@ module _
         (ν ∷ [], (ξ ∷ [], tt)),
         (full_share, (full_share, tt)),
         tt,
-        (lent-base δ base.now, (lent-sup ε sup.now, tt)),
+        (lent_base δ base.now, (lent_sup ε sup.now, tt)),
         (bv ∷ [], (sv ∷ [], tt)),
       ),
       tt,
     )
 
-    asks-start : (ν ξ : ℕ) (δ ε : GName)
+    asks_start : (ν ξ : ℕ) (δ ε : GName)
         → ent 𝓤 (⋆ 𝓛 (‵ (flft (ν ∷ []) full_share) ∷ ‵ (flft (ξ ∷ []) full_share) ∷ ‵ (LentBase ν δ base.now)
         ∷ ‵ (LentSup ξ ε sup.now) ∷ [])) ((Start 𝓛 mem run).pre (to_start ν ξ δ ε))
-    asks-start ν ξ δ ε =
+    asks_start ν ξ δ ε =
         qed 𝓛 (‵ (flft (ν ∷ []) full_share) ∷ ‵ (flft (ξ ∷ []) full_share) ∷ ‵ (LentBase ν δ base.now) ∷ ‵ (LentSup ξ ε sup.now) ∷ []) ∵
         nothing ! $ move ! (4 ∷ 0 ∷ []) $ fjoin ! $ move ! (3 ∷ 0 ∷ []) $ fjoin ! $ nothing ! $ move ! (3 ∷ 0 ∷ []) $ join ! $
         move ! (2 ∷ 0 ∷ []) $ join ! $ join ! $ frame ! $ done !
 
     abbrev Begun : Progress → List ℕ → List ℕ → Type 0
-    Begun r bs ss = fillingAt bs ss r ≡ started base.now sup.now
+    Begun r bs ss = filling_at bs ss r ≡ started base.now sup.now
 
-    says-start : (ν ξ : ℕ) (δ ε : GName) (r : Progress)
+    says_start : (ν ξ : ℕ) (δ ε : GName) (r : Progress)
         → ent 𝓤 (ensured 𝓛 start.ended (start.clauses 𝓛 mem run) (ν ∷ [], (ξ ∷ [], tt))
-        (lent-base δ base.now, (lent-sup ε sup.now, tt)) tt r) (mean 𝓛 (Left δ ε base.now sup.now (Begun r)))
-    says-start ν ξ δ ε r = ex_e 𝓤 _ (λ ws.
-        qed 𝓛 (‵ (lasts start.ended (ν ∷ [], (ξ ∷ [], tt)) (lent-base δ base.now, (lent-sup ε sup.now, tt)) ws)
+        (lent_base δ base.now, (lent_sup ε sup.now, tt)) tt r) (mean 𝓛 (Left δ ε base.now sup.now (Begun r)))
+    says_start ν ξ δ ε r = ex_e 𝓤 _ (λ ws.
+        qed 𝓛 (‵ (lasts start.ended (ν ∷ [], (ξ ∷ [], tt)) (lent_base δ base.now, (lent_sup ε sup.now, tt)) ws)
         ∷ raw (fact 𝓤 (Begun r ws.0 ws.1.0)) ∷ []) ∵
         move ! (1 ∷ []) $ heard ! _ (λ e. by ! (both_left δ ε base.now sup.now (Begun r) ws.0 ws.1.0 e)))
 
     module _ (is-dom : dom < 2 ^ 16) where
       -- what `place_next` is passed: the progress so far, at the machine value v, the edge e, and maps with the entries bs and ss
-      abbrev to-next : ℕ → ℕ → GName → GName → Progress → Val → Edge → List ℕ → List ℕ → (Next 𝓛 mem run).Ghost
-      to-next ν ξ δ ε r v e bs ss = (
+      abbrev to_next : ℕ → ℕ → GName → GName → Progress → Val → Edge → List ℕ → List ℕ → (Next 𝓛 mem run).Ghost
+      to_next ν ξ δ ε r v e bs ss = (
         (
           (κ₁, (ν ∷ [], (ξ ∷ [], tt))),
           (q₁, (full_share, (full_share, tt))),
           tt,
-          (r, (e, (frames, (dom, (lent-base δ bs, (lent-sup ε ss, tt)))))),
+          (r, (e, (frames, (dom, (lent_base δ bs, (lent_sup ε ss, tt)))))),
           (v ∷ [], (E'.lowered e ∷ [], (fv ∷ [], (vint w16 dom ∷ [], (bv ∷ [], (sv ∷ [], tt)))))),
         ),
         tt,
       )
 
-      asks-next : (ν ξ : ℕ) (δ ε : GName) (r : Progress) (v : Val) (e : Edge) (bs ss : List ℕ) → Is P.the_row r (v ∷ [])
+      asks_next : (ν ξ : ℕ) (δ ε : GName) (r : Progress) (v : Val) (e : Edge) (bs ss : List ℕ) → Is P.the_row r (v ∷ [])
           → Is E.the_row e (E'.lowered e ∷ [])
           → ent 𝓤 (⋆ 𝓛 (‵ (flft κ₁ q₁) ∷ ‵ (flft (ν ∷ []) full_share) ∷ ‵ (flft (ξ ∷ []) full_share) ∷ ‵ FramesOwn ∷ ‵ (LentBase ν δ bs)
-          ∷ ‵ (LentSup ξ ε ss) ∷ [])) ((Next 𝓛 mem run).pre (to-next ν ξ δ ε r v e bs ss))
-      asks-next ν ξ δ ε r v e bs ss is-r is-e =
+          ∷ ‵ (LentSup ξ ε ss) ∷ [])) ((Next 𝓛 mem run).pre (to_next ν ξ δ ε r v e bs ss))
+      asks_next ν ξ δ ε r v e bs ss is-r is-e =
           qed 𝓛 (‵ (flft κ₁ q₁) ∷ ‵ (flft (ν ∷ []) full_share) ∷ ‵ (flft (ξ ∷ []) full_share) ∷ ‵ FramesOwn ∷ ‵ (LentBase ν δ bs)
           ∷ ‵ (LentSup ξ ε ss) ∷ []) ∵
           nothing ! $ move ! (6 ∷ 0 ∷ []) $ fjoin ! $ move ! (5 ∷ 0 ∷ []) $ fjoin ! $
@@ -264,53 +264,53 @@ module _
           nothing ! $ move ! (4 ∷ 0 ∷ []) $ join ! $ move ! (3 ∷ 0 ∷ []) $ join ! $ move ! (2 ∷ 0 ∷ []) $ join ! $ join ! $ frame ! $ done !
 
       abbrev Placed : Progress → Edge → List ℕ → List ℕ → Progress → List ℕ → List ℕ → Type 0
-      Placed r e bs ss r' bs' ss' = fillingAt bs' ss' r' ≡ placedNext frames.now dom (fillingAt bs ss r) e
+      Placed r e bs ss r' bs' ss' = filling_at bs' ss' r' ≡ placed_next frames.now dom (filling_at bs ss r) e
 
-      says-next : (ν ξ : ℕ) (δ ε : GName) (r : Progress) (e : Edge) (bs ss : List ℕ) (r' : Progress)
+      says_next : (ν ξ : ℕ) (δ ε : GName) (r : Progress) (e : Edge) (bs ss : List ℕ) (r' : Progress)
           → ent 𝓤 (ensured 𝓛 next.ended (next.clauses 𝓛 mem run) (κ₁, (ν ∷ [], (ξ ∷ [], tt)))
-          (r, (e, (frames, (dom, (lent-base δ bs, (lent-sup ε ss, tt)))))) tt r') (mean 𝓛 (Left δ ε bs ss (Placed r e bs ss r')))
-      says-next ν ξ δ ε r e bs ss r' = ex_e 𝓤 _ (λ ws.
-          qed 𝓛 (‵ (lasts next.ended (κ₁, (ν ∷ [], (ξ ∷ [], tt))) (r, (e, (frames, (dom, (lent-base δ bs, (lent-sup ε ss, tt)))))) ws)
+          (r, (e, (frames, (dom, (lent_base δ bs, (lent_sup ε ss, tt)))))) tt r') (mean 𝓛 (Left δ ε bs ss (Placed r e bs ss r')))
+      says_next ν ξ δ ε r e bs ss r' = ex_e 𝓤 _ (λ ws.
+          qed 𝓛 (‵ (lasts next.ended (κ₁, (ν ∷ [], (ξ ∷ [], tt))) (r, (e, (frames, (dom, (lent_base δ bs, (lent_sup ε ss, tt)))))) ws)
           ∷ raw (fact 𝓤 (Placed r e bs ss r' ws.1.1.1.1.0 ws.1.1.1.1.1.0)) ∷ []) ∵
           move ! (1 ∷ []) $ heard ! _ (λ said. fsplit ! $ drop ! $ fsplit ! $ drop ! $ fsplit ! $ drop ! $ fsplit ! $ drop ! $
           by ! (both_left δ ε bs ss (Placed r e bs ss r') ws.1.1.1.1.0 ws.1.1.1.1.1.0 said)))
 
-      abbrev to-finish : ℕ → ℕ → GName → GName → Progress → Val → List ℕ → List ℕ → (Finish 𝓛 mem run).Ghost
-      to-finish ν ξ δ ε r v bs ss = (
+      abbrev to_finish : ℕ → ℕ → GName → GName → Progress → Val → List ℕ → List ℕ → (Finish 𝓛 mem run).Ghost
+      to_finish ν ξ δ ε r v bs ss = (
         (
           (ν ∷ [], (ξ ∷ [], tt)),
           (full_share, (full_share, tt)),
           tt,
-          (r, (lent-base δ bs, (lent-sup ε ss, tt))),
+          (r, (lent_base δ bs, (lent_sup ε ss, tt))),
           (v ∷ [], (bv ∷ [], (sv ∷ [], tt))),
         ),
         tt,
       )
 
-      asks-finish : (ν ξ : ℕ) (δ ε : GName) (r : Progress) (v : Val) (bs ss : List ℕ) → Is P.the_row r (v ∷ [])
+      asks_finish : (ν ξ : ℕ) (δ ε : GName) (r : Progress) (v : Val) (bs ss : List ℕ) → Is P.the_row r (v ∷ [])
           → ent 𝓤 (⋆ 𝓛 (‵ (flft (ν ∷ []) full_share) ∷ ‵ (flft (ξ ∷ []) full_share)
-          ∷ ‵ ((ShrSlice (named 0) (ν ∷ []) u8).own_val (lent-base δ bs) (bv ∷ []))
-          ∷ ‵ ((ShrSlice (named 0) (ξ ∷ []) u8).own_val (lent-sup ε ss) (sv ∷ [])) ∷ []))
-          ((Finish 𝓛 mem run).pre (to-finish ν ξ δ ε r v bs ss))
-      asks-finish ν ξ δ ε r v bs ss is-r =
+          ∷ ‵ ((ShrSlice (named 0) (ν ∷ []) u8).own_val (lent_base δ bs) (bv ∷ []))
+          ∷ ‵ ((ShrSlice (named 0) (ξ ∷ []) u8).own_val (lent_sup ε ss) (sv ∷ [])) ∷ []))
+          ((Finish 𝓛 mem run).pre (to_finish ν ξ δ ε r v bs ss))
+      asks_finish ν ξ δ ε r v bs ss is-r =
           qed 𝓛 (‵ (flft (ν ∷ []) full_share) ∷ ‵ (flft (ξ ∷ []) full_share)
-          ∷ ‵ ((ShrSlice (named 0) (ν ∷ []) u8).own_val (lent-base δ bs) (bv ∷ []))
-          ∷ ‵ ((ShrSlice (named 0) (ξ ∷ []) u8).own_val (lent-sup ε ss) (sv ∷ [])) ∷ []) ∵
+          ∷ ‵ ((ShrSlice (named 0) (ν ∷ []) u8).own_val (lent_base δ bs) (bv ∷ []))
+          ∷ ‵ ((ShrSlice (named 0) (ξ ∷ []) u8).own_val (lent_sup ε ss) (sv ∷ [])) ∷ []) ∵
           nothing ! $ move ! (4 ∷ 0 ∷ []) $ fjoin ! $ move ! (3 ∷ 0 ∷ []) $ fjoin ! $
           owned ! P.the_row (Is P.the_row) (EL.makes P.the_type P'.the_plain 𝓛) r _ is-r $ fjoin ! $
           nothing ! $ move ! (3 ∷ 0 ∷ []) $ join ! $ move ! (2 ∷ 0 ∷ []) $ join ! $ join ! $ frame ! $ done !
 
       abbrev Finished : Progress → List ℕ → List ℕ → Verdict → Type 0
-      Finished r bs ss r' = filling bs ss (outcomeOf r') ≡ onward conflicts (fillingAt bs ss r)
+      Finished r bs ss r' = filling bs ss (outcome_of r') ≡ onward conflicts (filling_at bs ss r)
 
-      says-finish : (ν ξ : ℕ) (δ ε : GName) (r : Progress) (bs ss : List ℕ) (r' : Verdict)
+      says_finish : (ν ξ : ℕ) (δ ε : GName) (r : Progress) (bs ss : List ℕ) (r' : Verdict)
           → ent 𝓤 (ensured 𝓛 finish.ended (finish.clauses 𝓛 mem run) (ν ∷ [], (ξ ∷ [], tt))
-          (r, (lent-base δ bs, (lent-sup ε ss, tt))) tt r') (fact 𝓤 (Finished r bs ss r'))
-      says-finish ν ξ δ ε r bs ss r' =
-          ex_e 𝓤 _ (λ ws. snd∗ 𝓤 (sem 𝓛 (lasts finish.ended (ν ∷ [], (ξ ∷ [], tt)) (r, (lent-base δ bs, (lent-sup ε ss, tt))) ws)) _)
+          (r, (lent_base δ bs, (lent_sup ε ss, tt))) tt r') (fact 𝓤 (Finished r bs ss r'))
+      says_finish ν ξ δ ε r bs ss r' =
+          ex_e 𝓤 _ (λ ws. snd∗ 𝓤 (sem 𝓛 (lasts finish.ended (ν ∷ [], (ξ ∷ [], tt)) (r, (lent_base δ bs, (lent_sup ε ss, tt))) ws)) _)
 
       exits : (r : Verdict) (u : Val) (bs ss : List ℕ) → length bs ≡ length base.now → length ss ≡ length sup.now
-          → filling bs ss (outcomeOf r) ≡ filled frames.now dom es base.now sup.now
+          → filling bs ss (outcome_of r) ≡ filled frames.now dom es base.now sup.now
           → ent 𝓤 (⋆ 𝓛 (‵ (flft κ₀ q₀) ∷ ‵ (flft κ₁ q₁) ∷ ‵ (flft κ₂ q₂) ∷ ‵ (flft κ₃ q₃) ∷ ‵ (BaseOwn bs) ∷ ‵ (SupOwn ss)
           ∷ ‵ ((R.the_row).own_val r (u ∷ [])) ∷ [])) (Post u)
       exits r u bs ss lb ls e =
@@ -331,7 +331,7 @@ module _
           (i : ℕ) × ((r : Progress) × ((v : Val) × ((bs : List ℕ) × ((ss : List ℕ)
           × ((i ≤ n) × (Is P.the_row r (v ∷ [])
           × ((length bs ≡ length base.now)
-          × ((length ss ≡ length sup.now) × PlacedTo frames.now dom es (started base.now sup.now) i (fillingAt bs ss r)))))))))
+          × ((length ss ≡ length sup.now) × PlacedTo frames.now dom es (started base.now sup.now) i (filling_at bs ss r)))))))))
 
       abbrev progress : State → Progress
       progress s = s.1.0
@@ -345,31 +345,31 @@ module _
       abbrev sups : State → List ℕ
       sups s = s.1.1.1.1.0
 
-      is-progress : (s : State) → Is P.the_row (progress s) (value s ∷ [])
-      is-progress s = s.1.1.1.1.1.1.0
+      is_progress : (s : State) → Is P.the_row (progress s) (value s ∷ [])
+      is_progress s = s.1.1.1.1.1.1.0
 
-      same-bases : (s : State) → length (bases s) ≡ length base.now
-      same-bases s = s.1.1.1.1.1.1.1.0
+      same_bases : (s : State) → length (bases s) ≡ length base.now
+      same_bases s = s.1.1.1.1.1.1.1.0
 
-      same-sups : (s : State) → length (sups s) ≡ length sup.now
-      same-sups s = s.1.1.1.1.1.1.1.1.0
+      same_sups : (s : State) → length (sups s) ≡ length sup.now
+      same_sups s = s.1.1.1.1.1.1.1.1.0
 
-      placed-to : (s : State) → PlacedTo frames.now dom es (started base.now sup.now) s.0
-          (fillingAt (bases s) (sups s) (progress s))
-      placed-to s = s.1.1.1.1.1.1.1.1.1
+      placed_to : (s : State) → PlacedTo frames.now dom es (started base.now sup.now) s.0
+          (filling_at (bases s) (sups s) (progress s))
+      placed_to s = s.1.1.1.1.1.1.1.1.1
 
       abbrev Nearer : State → State → Type 0
       Nearer t s = n - t.0 < n - s.0
 
-      nearer-wf : WellFounded Nearer
-      nearer-wf = InvImage.wf (λ (s : State). n - s.0) lt-wf_rel.wf
+      nearer_wf : WellFounded Nearer
+      nearer_wf = InvImage.wf (λ (s : State). n - s.0) lt-wf_rel.wf
 
       -- a map's machine values, whatever its entries are
       still : (x : Map) (zs : List ℕ) → length zs ≡ length x.now → slice_val x.ref_ptr (length x.now) ∷ [] ≡ shr_slice_vals (holding u8 zs x)
       still x zs e = ap (λ (m : ℕ). slice_val x.ptr m ∷ []) (sym e)
 
       module _
-          (𝓣 : Tables 𝓤 H) (fm : FmC 𝓤 H 𝓛.laws 𝓣.C) (known_next : Triple 𝓤 (𝓣.C #place-next) (Next 𝓛 mem run))
+          (𝓣 : Tables 𝓤 H) (fm : FmC 𝓤 H 𝓛.laws 𝓣.C) (known_next : Triple 𝓤 (𝓣.C #place_next) (Next 𝓛 mem run))
           (known-finish : Triple 𝓤 (𝓣.C #finish) (Finish 𝓛 mem run))
           (room : Room E.the_row n) (base-room : Room u8 (length base.now)) (sup-room : Room u8 (length sup.now))
           (l₀ l₁ l₂ l₃ l₄ l₅ l₆ l₇ l₈ l₉ l₁₀ l₁₁ l₁₂ l₁₃ l₁₄ l₁₅ l₁₆ l₁₇ l₁₈ l₁₉ l₂₀ l₂₁ l₂₂ l₂₃ l₂₄ : ℕ)
@@ -456,8 +456,8 @@ module _
               rewrite ! 2 (λ (t : Bool). ‵ (fat full_share ty_bool l₁₃ 0 (vbool t))) (lt-ltb i n within) refl $
               stays ! (load ! (from ! (stop !)) (look ! 2 refl)) $
               -- _15 is the address of the edge
-              assigns ! (bin ! (load ! (from ! (stop !)) (look ! 1 refl)) (lit ! tt) (record { fits = offset-fits })) (from ! (stop !))
-              (init ! 3 refl (tt, record { fits = offset-fits })) $
+              assigns ! (bin ! (load ! (from ! (stop !)) (look ! 1 refl)) (lit ! tt) (record { fits = offset_fits })) (from ! (stop !))
+              (init ! 3 refl (tt, record { fits = offset_fits })) $
               assigns ! (bin ! (load ! (from ! (fld ! refl (stop !))) (look_in ! 11 (sub ! 0 refl (whole !))))
               (load ! (from ! (stop !)) (look ! 3 refl)) tt) (from ! (stop !)) (init ! 4 refl (tt, tt)) $
               rewrite ! 4 (λ (p : ℕ). ‵ (fat full_share ty_ptr l₁₅ 0 (vptr b p))) (sym (place_is 16 o i)) refl $
@@ -480,19 +480,19 @@ module _
               assigns ! (agg ! (and_then ! (load ! (from ! (stop !)) (look ! 10 refl))
               (and_then ! (load ! (from ! (fld ! refl (stop !))) (look_in ! 17 (sub ! 1 refl (whole !)))) (no_more !)))) (from ! (stop !))
               (init ! 11 refl (tt, (tt, (record { fits = sup-room.0 }, tt)))) $
-              move ! (22 ∷ 19 ∷ []) $ lends u8 ! tt (named 2) (named 0) κ₂ q₂ (holding u8 bs base) (bv ∷ []) (still base bs (same-bases s))
+              move ! (22 ∷ 19 ∷ []) $ lends u8 ! tt (named 2) (named 0) κ₂ q₂ (holding u8 bs base) (bv ∷ []) (still base bs (same_bases s))
               (λ ν δ.
               -- [ν's token; base, lent; what is kept of it; what edges owns; κ₀'s token; _6; …; _5; κ₁'s, κ₃'s; what frames and sup own; …]
-              move ! (24 ∷ 22 ∷ []) $ lends u8 ! tt (named 3) (named 0) κ₃ q₃ (holding u8 ss sup) (sv ∷ []) (still sup ss (same-sups s))
+              move ! (24 ∷ 22 ∷ []) $ lends u8 ! tt (named 3) (named 0) κ₃ q₃ (holding u8 ss sup) (sv ∷ []) (still sup ss (same_sups s))
               (λ ξ ε.
               -- [ξ's token; sup, lent; what is kept of it; the same of base; what edges owns; κ₀'s; _6; …; _5; κ₁'s; what frames owns; …]:
               -- what frames owns is had twice
               move ! (25 ∷ []) $ use1 𝓛 (‵ FramesOwn ⊛ ‵ FramesOwn) ((shr_slice_copy 𝓛 (named 1) κ₁ Frame).twice frames (fv ∷ [])) $
               split ! $ move ! (26 ∷ 5 ∷ 2 ∷ 0 ∷ 6 ∷ 3 ∷ []) $ group ! 6 $
-              use1 𝓛 (raw ((Next 𝓛 mem run).pre (to-next ν ξ δ ε r v e bs ss))) (asks-next ν ξ δ ε r v e bs ss (is-progress s) is-e) $
+              use1 𝓛 (raw ((Next 𝓛 mem run).pre (to_next ν ξ δ ε r v e bs ss))) (asks_next ν ξ δ ε r v e bs ss (is_progress s) is-e) $
               -- [what `place_next` asks; what frames owns; what is kept of sup, of base; what edges owns; κ₀'s token; _6; _7; _13; …; _20;
               -- _12; _1; …; _5; …]
-              calls_at ! fm (Next 𝓛 mem run) known_next (to-next ν ξ δ ε r v e bs ss)
+              calls_at ! fm (Next 𝓛 mem run) known_next (to_next ν ξ δ ε r v e bs ss)
               (and_then ! (load ! (from ! (stop !)) (look ! 6 refl))
               (and_then ! (load ! (from ! (stop !)) (look ! 11 refl))
               (and_then ! (load ! (from ! (stop !)) (look ! 18 refl))
@@ -502,8 +502,8 @@ module _
               use1 𝓛 (later (some (λ (r' : Progress).
               ((‵ (flft κ₁ q₁) ⊛ (‵ (flft (ν ∷ []) full_share) ⊛ (‵ (flft (ξ ∷ []) full_share) ⊛ ‵ ftrue))) ⊛ ‵ ((P.the_row).own_val r' (u ∷ [])))
               ⊛ raw (ensured 𝓛 next.ended (next.clauses 𝓛 mem run) (κ₁, (ν ∷ [], (ξ ∷ [], tt)))
-              (r, (e, (frames, (dom, (lent-base δ bs, (lent-sup ε ss, tt)))))) tt r')))) (id⊢ 𝓤 _) $ await ! tt $ pick ! (λ r'.
-              split ! $ move ! (1 ∷ []) $ use1 𝓛 (Left δ ε bs ss (Placed r e bs ss r')) (says-next ν ξ δ ε r e bs ss r') $
+              (r, (e, (frames, (dom, (lent_base δ bs, (lent_sup ε ss, tt)))))) tt r')))) (id⊢ 𝓤 _) $ await ! tt $ pick ! (λ r'.
+              split ! $ move ! (1 ∷ []) $ use1 𝓛 (Left δ ε bs ss (Placed r e bs ss r')) (says_next ν ξ δ ε r e bs ss r') $
               pick ! (λ zs. learn ! (λ said. split ! $ move ! (2 ∷ []) $ split ! $ move ! (1 ∷ []) $
               facts ! P.the_row (Is P.the_row) (shows 𝓛 P.the_row) r' (u ∷ []) (λ is-r'.
               -- [the three tokens; base's and sup's last entries; what frames owns; what is kept of sup, of base; what edges owns; κ₀'s;
@@ -513,9 +513,9 @@ module _
               split ! $ move ! (1 ∷ []) $ split ! $ move ! (1 ∷ []) $ split ! $
               -- [ξ's token; true; ν's; κ₁'s; the last entries; what frames owns; what is kept of sup, of base; …]: both maps are back
               move ! (0 ∷ 7 ∷ 5 ∷ []) $ back u8 ! tt (named 3) (named 0) κ₃ q₃ (holding u8 ss sup) (sv ∷ [])
-              (still sup ss (same-sups s)) ξ ε zs.1 (subst (Room u8) (sym (same-sups s)) sup-room) said.1.0 $
+              (still sup ss (same_sups s)) ξ ε zs.1 (subst (Room u8) (sym (same_sups s)) sup-room) said.1.0 $
               move ! (3 ∷ 7 ∷ 5 ∷ []) $ back u8 ! tt (named 2) (named 0) κ₂ q₂ (holding u8 bs base) (bv ∷ [])
-              (still base bs (same-bases s)) ν δ zs.0 (subst (Room u8) (sym (same-bases s)) base-room) said.0 $ move ! (4 ∷ []) $
+              (still base bs (same_bases s)) ν δ zs.0 (subst (Room u8) (sym (same_bases s)) base-room) said.0 $ move ! (4 ∷ []) $
               drop ! $
               -- [base; κ₂'s token; sup; κ₃'s; κ₁'s; what frames owns; what edges owns; κ₀'s; _6; _7; _13; …; _20; _12; _1; …; _5; …]
               assigns_last ! (bin ! (load ! (from ! (stop !)) (look ! 9 refl)) (lit ! tt) (record { fits = next_fits })) (from ! (stop !))
@@ -538,11 +538,11 @@ module _
                           (
                             is-r',
                             (
-                              said.0 ∙ (same-bases s),
+                              said.0 ∙ (same_bases s),
                               (
-                                said.1.0 ∙ (same-sups s),
-                                one_placed frames.now dom es (started base.now sup.now) i (fillingAt bs ss r)
-                                    (fillingAt zs.0 zs.1 r') (edge_of []) within (placed-to s) said.1.1,
+                                said.1.0 ∙ (same_sups s),
+                                one_placed frames.now dom es (started base.now sup.now) i (filling_at bs ss r)
+                                    (filling_at zs.0 zs.1 r') (edge_of []) within (placed_to s) said.1.1,
                               ),
                             ),
                           ),
@@ -554,8 +554,8 @@ module _
               )
               (add-one-dec n i within)))))))))
             where
-              offset-fits : s.0 * 16 < 2 ^ 64
-              offset-fits = omega (arith, within, room.1)
+              offset_fits : s.0 * 16 < 2 ^ 64
+              offset_fits = omega (arith, within, room.1)
 
               next_fits : s.0 + 1 < 2 ^ 64
               next_fits = lt_of_le_of_lt (add-one-le within) room.0
@@ -610,33 +610,33 @@ module _
               assigns ! (agg ! (and_then ! (load ! (from ! (stop !)) (look ! 31 refl))
               (and_then ! (load ! (from ! (fld ! refl (stop !))) (look_in ! 15 (sub ! 1 refl (whole !)))) (no_more !)))) (from ! (stop !))
               (init ! 32 refl (tt, (tt, (record { fits = sup-room.0 }, tt)))) $
-              move ! (22 ∷ 18 ∷ []) $ shares u8 ! tt (named 2) (named 0) κ₂ q₂ (holding u8 bs base) (bv ∷ []) (still base bs (same-bases s))
+              move ! (22 ∷ 18 ∷ []) $ shares u8 ! tt (named 2) (named 0) κ₂ q₂ (holding u8 bs base) (bv ∷ []) (still base bs (same_bases s))
               (λ ν δ.
               -- [ν's token; base, lent; what is kept of it; _6; …; _5; κ₀'s, κ₁'s, κ₃'s; what edges, frames and sup own; …]
-              move ! (24 ∷ 21 ∷ []) $ shares u8 ! tt (named 3) (named 0) κ₃ q₃ (holding u8 ss sup) (sv ∷ []) (still sup ss (same-sups s))
+              move ! (24 ∷ 21 ∷ []) $ shares u8 ! tt (named 3) (named 0) κ₃ q₃ (holding u8 ss sup) (sv ∷ []) (still sup ss (same_sups s))
               (λ ξ ε. move ! (3 ∷ 0 ∷ 4 ∷ 1 ∷ []) $ group ! 4 $
-              use1 𝓛 (raw ((Finish 𝓛 mem run).pre (to-finish ν ξ δ ε r v bs ss))) (asks-finish ν ξ δ ε r v bs ss (is-progress s)) $
+              use1 𝓛 (raw ((Finish 𝓛 mem run).pre (to_finish ν ξ δ ε r v bs ss))) (asks_finish ν ξ δ ε r v bs ss (is_progress s)) $
               -- [what `finish` asks; what is kept of sup, of base; _6; …; _5; κ₀'s, κ₁'s; what edges and frames own; room for _0; _8; …;
               -- _11; _21; …; _24; …]
-              calls_at ! fm (Finish 𝓛 mem run) known-finish (to-finish ν ξ δ ε r v bs ss)
+              calls_at ! fm (Finish 𝓛 mem run) known-finish (to_finish ν ξ δ ε r v bs ss)
               (and_then ! (load ! (from ! (stop !)) (look ! 3 refl))
               (and_then ! (load ! (from ! (stop !)) (look ! 29 refl)) (and_then ! (load ! (from ! (stop !)) (look ! 31 refl)) (no_more !))))
               (λ u.
               use1 𝓛 (later (some (λ (r' : Verdict).
               ((‵ (flft (ν ∷ []) full_share) ⊛ (‵ (flft (ξ ∷ []) full_share) ⊛ ‵ ftrue)) ⊛ ‵ ((R.the_row).own_val r' (u ∷ [])))
               ⊛ raw (ensured 𝓛 finish.ended (finish.clauses 𝓛 mem run) (ν ∷ [], (ξ ∷ [], tt))
-              (r, (lent-base δ bs, (lent-sup ε ss, tt))) tt r')))) (id⊢ 𝓤 _) $ await ! tt $ pick ! (λ r'.
-              split ! $ move ! (1 ∷ []) $ use1 𝓛 (raw (fact 𝓤 (Finished r bs ss r'))) (says-finish ν ξ δ ε r bs ss r') $
+              (r, (lent_base δ bs, (lent_sup ε ss, tt))) tt r')))) (id⊢ 𝓤 _) $ await ! tt $ pick ! (λ r'.
+              split ! $ move ! (1 ∷ []) $ use1 𝓛 (raw (fact 𝓤 (Finished r bs ss r'))) (says_finish ν ξ δ ε r bs ss r') $
               heard ! (Finished r bs ss r') (λ finished. split ! $ move ! (1 ∷ []) $
               -- [the result; both tokens; what is kept of sup, of base; _6; …; _5; κ₀'s, κ₁'s; what edges and frames own; room for _0; …]
               peeks ! R.the_row (Is R.the_row) (shows 𝓛 R.the_row) r' (u ∷ []) (λ is-r'.
               land ! (from ! (stop !)) (init ! 24 refl ((EL.lawful R.the_type R'.the_laws 𝓛 tt).typed r' _ is-r').0) $
               move ! (1 ∷ []) $ split ! $ move ! (1 ∷ []) $ split ! $
               -- [ξ's token; true; ν's; the result; what is kept of sup, of base; …]: both maps are back
-              move ! (0 ∷ 4 ∷ []) $ unshares u8 ! tt (named 3) (named 0) κ₃ q₃ (holding u8 ss sup) (sv ∷ []) (still sup ss (same-sups s)) ξ
-              (subst (Room u8) (sym (same-sups s)) sup-room) $
+              move ! (0 ∷ 4 ∷ []) $ unshares u8 ! tt (named 3) (named 0) κ₃ q₃ (holding u8 ss sup) (sv ∷ []) (still sup ss (same_sups s)) ξ
+              (subst (Room u8) (sym (same_sups s)) sup-room) $
               move ! (3 ∷ 5 ∷ []) $ unshares u8 ! tt (named 2) (named 0) κ₂ q₂ (holding u8 bs base) (bv ∷ [])
-              (still base bs (same-bases s)) ν (subst (Room u8) (sym (same-bases s)) base-room) $
+              (still base bs (same_bases s)) ν (subst (Room u8) (sym (same_bases s)) base-room) $
               -- [base; κ₂'s token; sup; κ₃'s; true; the result; _6; _7; _13; …; _20; _12; _1; …; _5; κ₀'s, κ₁'s; what edges and frames own;
               -- _0; _8; …; _11; _21; …; _24; that each local dies]
               forget ! 6 refl $ forget ! 7 refl $ forget ! 8 refl $ forget ! 16 refl $ forget ! 17 refl $ forget ! 18 refl $
@@ -645,9 +645,9 @@ module _
               keep ! (26 ∷ 35 ∷ 17 ∷ 36 ∷ 18 ∷ 37 ∷ 19 ∷ 38 ∷ 20 ∷ 39 ∷ 21 ∷ 40 ∷ 6 ∷ 41 ∷ 7 ∷ 42 ∷ 27 ∷ 43 ∷ 28 ∷ 44 ∷ 29 ∷ 45 ∷ 30 ∷ 46
               ∷ 16 ∷ 47 ∷ 8 ∷ 48 ∷ 9 ∷ 49 ∷ 10 ∷ 50 ∷ 11 ∷ 51 ∷ 12 ∷ 52 ∷ 13 ∷ 53 ∷ 14 ∷ 54 ∷ 15 ∷ 55 ∷ 31 ∷ 56 ∷ 32 ∷ 57 ∷ 33 ∷ 58 ∷ 34
               ∷ 59 ∷ 22 ∷ 23 ∷ 1 ∷ 3 ∷ 0 ∷ 2 ∷ 5 ∷ []) $
-              freed r' u bs ss (exits r' u bs ss (same-bases s) (same-sups s)
-              (all_placed frames.now dom es (started base.now sup.now) base.now sup.now refl i (fillingAt bs ss r)
-              (filling bs ss (outcomeOf r')) past (placed-to s) finished))))))))
+              freed r' u bs ss (exits r' u bs ss (same_bases s) (same_sups s)
+              (all_placed frames.now dom es (started base.now sup.now) base.now sup.now refl i (filling_at bs ss r)
+              (filling bs ss (outcome_of r')) past (placed_to s) finished))))))))
 
           turns : (s : State) → Sq 𝓛 (At s) (runs C Λ En text.turn-1 (any_q (Turned s)))
           turns s = go (ltb s.0 n) refl
@@ -657,11 +657,11 @@ module _
               go false test = ends s (ltb-false s.0 n test)
 
           looping : (s : State) → Sq 𝓛 (At s) (runs C Λ En text.t-8 (at_ret En Post))
-          looping s = first ! $ blocks ! $ loops ! 𝓣 Nearer nearer-wf At turns s
+          looping s = first ! $ blocks ! $ loops ! 𝓣 Nearer nearer_wf At turns s
 
       -- the MIR, up to the loop
       walk : (𝓣 : Tables 𝓤 H) → FmC 𝓤 H 𝓛.laws 𝓣.C → Triple 𝓤 (𝓣.C #start) (Start 𝓛 mem run)
-          → Triple 𝓤 (𝓣.C #place-next) (Next 𝓛 mem run) → Triple 𝓤 (𝓣.C #finish) (Finish 𝓛 mem run)
+          → Triple 𝓤 (𝓣.C #place_next) (Next 𝓛 mem run) → Triple 𝓤 (𝓣.C #finish) (Finish 𝓛 mem run)
           → Is (ShrSlice (named 0) κ₀ E.the_row) edges (ev ∷ []) → Is (ShrSlice (named 1) κ₁ Frame) frames (fv ∷ [])
           → Is (MutSlice (named 2) κ₂ u8) base (bv ∷ []) → Is (MutSlice (named 3) κ₃ u8) sup (sv ∷ [])
           → ent 𝓤 (on_entry 𝓛 leaf.signature (κ₀, (κ₁, (κ₂, (κ₃, tt)))) (q₀, (q₁, (q₂, (q₃, tt)))) a at)
@@ -699,7 +699,7 @@ module _
           move ! (2 ∷ 7 ∷ []) $ lends u8 ! tt (named 2) (named 0) κ₂ q₂ base (bv ∷ []) refl (λ ν δ.
           -- [ν's token; base, lent; what is kept of it; sup; true; what frames and edges own; κ₃'s; true; κ₁'s, κ₀'s; _24; …]
           move ! (3 ∷ 7 ∷ []) $ lends u8 ! tt (named 3) (named 0) κ₃ q₃ sup (sv ∷ []) refl (λ ξ ε. move ! (3 ∷ 0 ∷ 4 ∷ 1 ∷ []) $ group ! 4 $
-          use1 𝓛 (raw ((Start 𝓛 mem run).pre (to_start ν ξ δ ε))) (asks-start ν ξ δ ε) $
+          use1 𝓛 (raw ((Start 𝓛 mem run).pre (to_start ν ξ δ ε))) (asks_start ν ξ δ ε) $
           -- [what `start` asks; what is kept of sup, of base; true; what frames and edges own; true; κ₁'s, κ₀'s token; _24; …]
           calls_at ! fm (Start 𝓛 mem run) Known-start (to_start ν ξ δ ε)
           (and_then ! (load ! (from ! (stop !)) (look ! 39 refl)) (and_then ! (load ! (from ! (stop !)) (look ! 35 refl)) (no_more !)))
@@ -707,8 +707,8 @@ module _
           use1 𝓛 (later (some (λ (r : Progress).
           ((‵ (flft (ν ∷ []) full_share) ⊛ (‵ (flft (ξ ∷ []) full_share) ⊛ ‵ ftrue)) ⊛ ‵ ((P.the_row).own_val r (u ∷ [])))
           ⊛ raw (ensured 𝓛 start.ended (start.clauses 𝓛 mem run) (ν ∷ [], (ξ ∷ [], tt))
-          (lent-base δ base.now, (lent-sup ε sup.now, tt)) tt r)))) (id⊢ 𝓤 _) $ await ! tt $ pick ! (λ r.
-          split ! $ move ! (1 ∷ []) $ use1 𝓛 (Left δ ε base.now sup.now (Begun r)) (says-start ν ξ δ ε r) $
+          (lent_base δ base.now, (lent_sup ε sup.now, tt)) tt r)))) (id⊢ 𝓤 _) $ await ! tt $ pick ! (λ r.
+          split ! $ move ! (1 ∷ []) $ use1 𝓛 (Left δ ε base.now sup.now (Begun r)) (says_start ν ξ δ ε r) $
           pick ! (λ zs. learn ! (λ said. split ! $ move ! (2 ∷ []) $ split ! $ move ! (1 ∷ []) $
           facts ! P.the_row (Is P.the_row) (shows 𝓛 P.the_row) r (u ∷ []) (λ is-r.
           -- [both tokens; base's and sup's last entries; what is kept of sup, of base; …; _24; …]
@@ -738,7 +738,7 @@ module _
                     zs.1,
                     (
                       zero-le,
-                      (is-r, (said.0, (said.1.0, ap (placedAll frames.now dom es) (sym said.1.1)))),
+                      (is-r, (said.0, (said.1.0, ap (placed_all frames.now dom es) (sym said.1.1)))),
                     ),
                   ),
                 ),
@@ -748,12 +748,12 @@ module _
 
 module _ {M : Type 1} {𝓤 : Ura M} (𝓛 : Logic 𝓤) (mem : Memory → SProp 𝓤) (run : Routine → Fun 𝓤)
     (𝓣 : Tables 𝓤 𝓛.H)
-    (Known-start : Triple 𝓤 (𝓣.C #start) (Start 𝓛 mem run)) (known_next : Triple 𝓤 (𝓣.C #place-next) (Next 𝓛 mem run))
+    (Known-start : Triple 𝓤 (𝓣.C #start) (Start 𝓛 mem run)) (known_next : Triple 𝓤 (𝓣.C #place_next) (Next 𝓛 mem run))
     (known-finish : Triple 𝓤 (𝓣.C #finish) (Finish 𝓛 mem run)) where
   open 𝓛 use {H}
 
-  leaf-walks : Walks 𝓛 leaf.ended stayed (WpFn 𝓤 H 𝓣.C 𝓣.Λ code.function) (leaf.clauses 𝓛 mem run)
-  leaf-walks = walked 𝓛 leaf.ended stayed (leaf.clauses 𝓛 mem run) (WpFn 𝓤 H 𝓣.C 𝓣.Λ code.function)
+  leaf_walks : Walks 𝓛 leaf.ended stayed (WpFn 𝓤 H 𝓣.C 𝓣.Λ code.function) (leaf.clauses 𝓛 mem run)
+  leaf_walks = walked 𝓛 leaf.ended stayed (leaf.clauses 𝓛 mem run) (WpFn 𝓤 H 𝓣.C 𝓣.Λ code.function)
       (λ κs. (shr_slice_vals, (shr_slice_vals, (uint_vals w16, (shr_slice_vals, (shr_slice_vals, tt))))))
       (λ κs. (
         shr_slice_Tells (named 0) κs.0 E.the_row,
@@ -768,8 +768,8 @@ module _ {M : Type 1} {𝓤 : Ura M} (𝓛 : Logic 𝓤) (mem : Memory → SProp
       are.1.1.0.1 𝓣 (fm_of 𝓤 H 𝓛.laws 𝓣) Known-start known_next known-finish are.0 are.1.0 are.1.1.1.0
       are.1.1.1.1.0))
 
-  leaf-meets : Meets 𝓛 leaf.signature (WpFn 𝓤 H 𝓣.C 𝓣.Λ code.function) (leaf.spec 𝓛 mem run)
-  leaf-meets = walk_Meets 𝓛 leaf.ended stayed (
+  leaf_meets : Meets 𝓛 leaf.signature (WpFn 𝓤 H 𝓣.C 𝓣.Λ code.function) (leaf.spec 𝓛 mem run)
+  leaf_meets = walk_Meets 𝓛 leaf.ended stayed (
     Goes-dropped 𝓛 4 (shr_slice_of (0 ∷ []) tt (plain (λ _. E.the_row))) yes (λ κs x f. refl),
     (
       Goes-dropped 𝓛 4 (shr_slice_of (1 ∷ []) tt (plain (λ _. Frame))) yes (λ κs x f. refl),
@@ -779,17 +779,17 @@ module _ {M : Type 1} {𝓤 : Ura M} (𝓛 : Logic 𝓤) (mem : Memory → SProp
       ),
     ),
   )
-      (leaf.clauses 𝓛 mem run) (WpFn 𝓤 H 𝓣.C 𝓣.Λ code.function) (WpFn-mono 𝓤 H 𝓛.laws 𝓣 code.function) leaf-walks
+      (leaf.clauses 𝓛 mem run) (WpFn 𝓤 H 𝓣.C 𝓣.Λ code.function) (WpFn-mono 𝓤 H 𝓛.laws 𝓣 code.function) leaf_walks
 
-pub leaf-map-from-edges-spec : {M : Type 1} → stated.statement M
+pub leaf_map_from_edges_spec : {M : Type 1} → stated.statement M
 unfolding code.routine tables_of
-leaf-map-from-edges-spec 𝓤 𝓛 𝓜 𝓡 =
+leaf_map_from_edges_spec 𝓤 𝓛 𝓜 𝓡 =
     entered 𝓤 𝓛.H (triple_of 𝓛 leaf.signature (leaf.spec 𝓛 𝓜.mem 𝓡.run))
     (tables 𝓤 𝓛.H 𝓜 𝓡 code.env).C (tables 𝓤 𝓛.H 𝓜 𝓡 code.env).Λ #leaf-map-from-edges code.function (code.unfolded 𝓤 𝓛.H 𝓜 𝓡)
-    (leaf-meets 𝓛 𝓜.mem 𝓡.run (tables_of 𝓤 𝓛.H 𝓜 (tables 𝓤 𝓛.H 𝓜 𝓡 code.env))
+    (leaf_meets 𝓛 𝓜.mem 𝓡.run (tables_of 𝓤 𝓛.H 𝓜 (tables 𝓤 𝓛.H 𝓜 𝓡 code.env))
     (cited 𝓤 𝓛.H (Start 𝓛 𝓜.mem 𝓡.run) 𝓜 𝓡 code.env #start start-def.routine code.calls-filling::start
     (start-thm.met 𝓤 𝓛 𝓜 𝓡))
-    (cited 𝓤 𝓛.H (Next 𝓛 𝓜.mem 𝓡.run) 𝓜 𝓡 code.env #place-next next-def.routine code.calls-filling::place-next
+    (cited 𝓤 𝓛.H (Next 𝓛 𝓜.mem 𝓡.run) 𝓜 𝓡 code.env #place_next next-def.routine code.calls-filling::place_next
     (next-thm.met 𝓤 𝓛 𝓜 𝓡))
     (cited 𝓤 𝓛.H (Finish 𝓛 𝓜.mem 𝓡.run) 𝓜 𝓡 code.env #finish finish-def.routine code.calls-filling::finish
     (finish-thm.met 𝓤 𝓛 𝓜 𝓡)))

@@ -9,9 +9,9 @@ returns : tie.Need-returns
 unfolding row1 first
 returns c = simp (ne_eqb _ _ c.if1.true)
 
-returns-2 : tie.Need-returns-2
+returns_2 : tie.Need-returns-2
 unfolding row1 first
-returns-2 c = simp (eq-eqb _ _ c.if1.false)
+returns_2 c = simp (eq-eqb _ _ c.if1.false)
 
-pub arena-len-spec : {M : Type 1} → statement M
-arena-len-spec = tie.close (tie.spec returns returns-2)
+pub arena_len_spec : {M : Type 1} → statement M
+arena_len_spec = tie.close (tie.spec returns returns_2)

@@ -10,72 +10,72 @@ use Rattle.lent_rows.proofs.map_codes.Statement.{statement}
 use Rattle.lent_rows.proofs.map_codes.Tie as tie
 use Rattle.map_entries.proofs.Larger.{at_most}
 use Rattle.refusal.proofs.Parts.{from_at, from_end}
-use Rattle.refusal.specs.Table.{first, eachFrom}
+use Rattle.refusal.specs.Table.{first, each_from}
 use Rattle.rows.specs.Rows.{row3}
 
-abbrev invariant-loop : tie.invariant-loop
-invariant-loop code map i₀ i-end i = first (eachFrom (row3 code) 0 map) ≡ first (eachFrom (row3 code) i (drop i map))
+abbrev invariant_loop : tie.invariant-loop
+invariant_loop code map i₀ i-end i = first (each_from (row3 code) 0 map) ≡ first (each_from (row3 code) i (drop i map))
 
-abbrev decreases-loop : tie.decreases-loop
-decreases-loop code map i₀ i-end i = i-end - i
+abbrev decreases_loop : tie.decreases-loop
+decreases_loop code map i₀ i-end i = i-end - i
 
-largest-requires : tie.Need-largest-requires invariant-loop decreases-loop
-largest-requires c κs = search rules
+largest_requires : tie.Need-largest-requires invariant_loop decreases_loop
+largest_requires c κs = search rules
 
-returns : tie.Need-returns invariant-loop decreases-loop
+returns : tie.Need-returns invariant_loop decreases_loop
 returns c =
     let v = c.before in
     let a = v.before.before.args in
     sym (all_codes a.code a.map.now (λ i. le_trans (at_most a.map.now _ v.largest.ensures i) c.if1.true))
 
-loop-holds : tie.Need-loop-init invariant-loop decreases-loop
-loop-holds c = refl
+loop_holds : tie.Need-loop-init invariant_loop decreases_loop
+loop_holds c = refl
 
-shared-slice-read-if2 : tie.Need-shared-slice-read-if2 invariant-loop decreases-loop
-shared-slice-read-if2 c = search rules
+shared_slice_read_if2 : tie.Need-shared-slice-read-if2 invariant_loop decreases_loop
+shared_slice_read_if2 c = search rules
 
-returns-2 : tie.Need-returns-2 invariant-loop decreases-loop
+returns_2 : tie.Need-returns-2 invariant_loop decreases_loop
 unfolding row3 first
-returns-2 c =
+returns_2 c =
     let turn = c.before.before in
     let h = turn.before in
     let a = h.before.before.before.before.args in
     let here = from_at a.map.now h.loop.i 0 turn.loop-test.true (row3 a.code) in
     rw (h.loop.invariant, here, lt-ltb _ _ c.if2.true)
 
-add-i : tie.Need-overflow-add-i invariant-loop decreases-loop
-add-i c = search rules
+add_i : tie.Need-overflow-add-i invariant_loop decreases_loop
+add_i c = search rules
 
-loop-less : tie.Need-loop-smaller invariant-loop decreases-loop
-loop-less c = search rules
+loop_less : tie.Need-loop-smaller invariant_loop decreases_loop
+loop_less c = search rules
 
-loop-again : tie.Need-loop-preserved invariant-loop decreases-loop
+loop_again : tie.Need-loop-preserved invariant_loop decreases_loop
 unfolding row3
-loop-again c =
+loop_again c =
     let turn = c.before.before in
     let h = turn.before in
     let a = h.before.before.before.before.args in
     let here = from_at a.map.now h.loop.i 0 turn.loop-test.true (row3 a.code) in
     rw (h.loop.invariant, here, le-ltb _ _ c.if2.false)
 
-returns-3 : tie.Need-returns-3 invariant-loop decreases-loop
-returns-3 c =
+returns_3 : tie.Need-returns-3 invariant_loop decreases_loop
+returns_3 c =
     let h = c.before in
     let a = h.before.before.before.before.args in
     from_end a.map.now h.loop.i c.loop-test.false (row3 a.code) ∙ sym h.loop.invariant
 
-pub map-codes-spec : {M : Type 1} → statement M
-map-codes-spec =
+pub map_codes_spec : {M : Type 1} → statement M
+map_codes_spec =
     tie.close
     (tie.spec
-    invariant-loop
-    decreases-loop
-    largest-requires
+    invariant_loop
+    decreases_loop
+    largest_requires
     returns
-    loop-holds
-    shared-slice-read-if2
-    returns-2
-    add-i
-    loop-less
-    loop-again
-    returns-3)
+    loop_holds
+    shared_slice_read_if2
+    returns_2
+    add_i
+    loop_less
+    loop_again
+    returns_3)

@@ -9,9 +9,9 @@ returns : tie.Need-returns
 unfolding row2 first
 returns c = simp (lt-ltb _ _ c.if1.true)
 
-returns-2 : tie.Need-returns-2
+returns_2 : tie.Need-returns-2
 unfolding row2 first
-returns-2 c = simp (le-ltb _ _ c.if1.false)
+returns_2 c = simp (le-ltb _ _ c.if1.false)
 
-pub map-len-spec : {M : Type 1} → statement M
-map-len-spec = tie.close (tie.spec returns returns-2)
+pub map_len_spec : {M : Type 1} → statement M
+map_len_spec = tie.close (tie.spec returns returns_2)

@@ -8,11 +8,11 @@ use Rattle.map_entries.proofs.entry_at.Tie as tie
 returns : tie.Need-returns
 returns c = sym (get_or-eq_default c.before.args.map.now 0 c.if1.true)
 
-shared-slice-read-result : tie.Need-shared-slice-read-result
-shared-slice-read-result c = search rules
+shared_slice_read_result : tie.Need-shared-slice-read-result
+shared_slice_read_result c = search rules
 
-returns-2 : tie.Need-returns-2
-returns-2 c = search rules
+returns_2 : tie.Need-returns-2
+returns_2 c = search rules
 
-pub entry-at-spec : {M : Type 1} → statement M
-entry-at-spec = tie.close (tie.spec returns shared-slice-read-result returns-2)
+pub entry_at_spec : {M : Type 1} → statement M
+entry_at_spec = tie.close (tie.spec returns shared_slice_read_result returns_2)

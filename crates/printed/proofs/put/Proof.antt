@@ -5,11 +5,11 @@ use Rattle.text.proofs.Front.{room}
 use Rattle.printed.proofs.put.Statement.{statement}
 use Rattle.printed.proofs.put.Tie as tie
 
-put-requires : tie.Need-put-requires
-put-requires c κs = search rules
+put_requires : tie.Need-put-requires
+put_requires c κs = search rules
 
-add-result : tie.Need-overflow-add-result
-add-result c = search rules
+add_result : tie.Need-overflow-add-result
+add_result c = search rules
 
 same_length : tie.Need-same-length
 same_length c = search rules
@@ -21,4 +21,4 @@ returns c =
     (refl, p.put.ensures ∙ room a.text.now a.out.now a.at p.before.before.before.before.requires)
 
 pub put_spec : {M : Type 1} → statement M
-put_spec = tie.close (tie.spec put-requires add-result same_length returns)
+put_spec = tie.close (tie.spec put_requires add_result same_length returns)

@@ -4,91 +4,91 @@ use borrow.Author.Rules.{rules}
 use Rattle.replay.proofs.replay_line.Statement.{statement}
 use Rattle.replay.proofs.replay_line.Tie as tie
 
-abbrev invariant-loop : tie.invariant-loop
-invariant-loop op x₀ i₀ x i = i ≤ 8
+abbrev invariant_loop : tie.invariant-loop
+invariant_loop op x₀ i₀ x i = i ≤ 8
 
-abbrev decreases-loop : tie.decreases-loop
-decreases-loop op x₀ i₀ x i = 8 - i
+abbrev decreases_loop : tie.decreases-loop
+decreases_loop op x₀ i₀ x i = 8 - i
 
-read-number-requires : tie.Need-read-number-requires invariant-loop decreases-loop
-read-number-requires c κs = search rules
+read_number_requires : tie.Need-read-number-requires invariant_loop decreases_loop
+read_number_requires c κs = search rules
 
-enum-known-op : tie.Need-enum-known-op invariant-loop decreases-loop
-enum-known-op c = search rules
+enum_known_op : tie.Need-enum-known-op invariant_loop decreases_loop
+enum_known_op c = search rules
 
-enum_told : tie.Need-enum-told invariant-loop decreases-loop
+enum_told : tie.Need-enum-told invariant_loop decreases_loop
 enum_told c = search rules
 
-returns : tie.Need-returns invariant-loop decreases-loop
+returns : tie.Need-returns invariant_loop decreases_loop
 returns c = search rules
 
-loop-holds : tie.Need-loop-init invariant-loop decreases-loop
-loop-holds c = search rules
+loop_holds : tie.Need-loop-init invariant_loop decreases_loop
+loop_holds c = search rules
 
-read-number-requires-2 : tie.Need-read-number-requires-2 invariant-loop decreases-loop
-read-number-requires-2 c κs = search rules
+read_number_requires_2 : tie.Need-read-number-requires-2 invariant_loop decreases_loop
+read_number_requires_2 c κs = search rules
 
-enum-known-n : tie.Need-enum-known-n invariant-loop decreases-loop
-enum-known-n c = search rules
+enum_known_n : tie.Need-enum-known-n invariant_loop decreases_loop
+enum_known_n c = search rules
 
-enum-told-2 : tie.Need-enum-told-2 invariant-loop decreases-loop
-enum-told-2 c = search rules
+enum_told_2 : tie.Need-enum-told-2 invariant_loop decreases_loop
+enum_told_2 c = search rules
 
-returns-2 : tie.Need-returns-2 invariant-loop decreases-loop
-returns-2 c = search rules
+returns_2 : tie.Need-returns-2 invariant_loop decreases_loop
+returns_2 c = search rules
 
-mul-x : tie.Need-overflow-mul-x invariant-loop decreases-loop
-mul-x c = search rules
+mul_x : tie.Need-overflow-mul-x invariant_loop decreases_loop
+mul_x c = search rules
 
-array-write-x : tie.Need-array-write-x invariant-loop decreases-loop
-array-write-x c = search rules
+array_write_x : tie.Need-array-write-x invariant_loop decreases_loop
+array_write_x c = search rules
 
-add-i : tie.Need-overflow-add-i invariant-loop decreases-loop
-add-i c = search rules
+add_i : tie.Need-overflow-add-i invariant_loop decreases_loop
+add_i c = search rules
 
-loop-less : tie.Need-loop-smaller invariant-loop decreases-loop
-loop-less c = search rules
+loop_less : tie.Need-loop-smaller invariant_loop decreases_loop
+loop_less c = search rules
 
-loop-again : tie.Need-loop-preserved invariant-loop decreases-loop
-loop-again c = search rules
+loop_again : tie.Need-loop-preserved invariant_loop decreases_loop
+loop_again c = search rules
 
-cast-answer : tie.Need-overflow-cast-answer invariant-loop decreases-loop
-cast-answer c = search rules
+cast_answer : tie.Need-overflow-cast-answer invariant_loop decreases_loop
+cast_answer c = search rules
 
-answer-requires : tie.Need-answer-requires invariant-loop decreases-loop
-answer-requires c κs = search rules
+answer_requires : tie.Need-answer-requires invariant_loop decreases_loop
+answer_requires c κs = search rules
 
-slice-aggregate-print-line : tie.Need-slice-aggregate-print-line invariant-loop decreases-loop
-slice-aggregate-print-line c = search rules
+slice_aggregate_print_line : tie.Need-slice-aggregate-print-line invariant_loop decreases_loop
+slice_aggregate_print_line c = search rules
 
-print-line-requires : tie.Need-print-line-requires invariant-loop decreases-loop
-print-line-requires c κs = search rules
+print_line_requires : tie.Need-print-line-requires invariant_loop decreases_loop
+print_line_requires c κs = search rules
 
-returns-3 : tie.Need-returns-3 invariant-loop decreases-loop
-returns-3 c = search rules
+returns_3 : tie.Need-returns-3 invariant_loop decreases_loop
+returns_3 c = search rules
 
-pub replay-line-spec : {M : Type 1} → statement M
-replay-line-spec =
+pub replay_line_spec : {M : Type 1} → statement M
+replay_line_spec =
     tie.close
     (tie.spec
-    invariant-loop
-    decreases-loop
-    read-number-requires
-    enum-known-op
+    invariant_loop
+    decreases_loop
+    read_number_requires
+    enum_known_op
     enum_told
     returns
-    loop-holds
-    read-number-requires-2
-    enum-known-n
-    enum-told-2
-    returns-2
-    mul-x
-    array-write-x
-    add-i
-    loop-less
-    loop-again
-    cast-answer
-    answer-requires
-    slice-aggregate-print-line
-    print-line-requires
-    returns-3)
+    loop_holds
+    read_number_requires_2
+    enum_known_n
+    enum_told_2
+    returns_2
+    mul_x
+    array_write_x
+    add_i
+    loop_less
+    loop_again
+    cast_answer
+    answer_requires
+    slice_aggregate_print_line
+    print_line_requires
+    returns_3)

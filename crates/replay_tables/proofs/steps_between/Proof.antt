@@ -6,67 +6,67 @@ use borrow.Author.Rules.{rules}
 use Rattle.replay_tables.proofs.steps_between.Statement.{statement}
 use Rattle.replay_tables.proofs.steps_between.Tie as tie
 
-abbrev invariant-loop : tie.invariant-loop
-invariant-loop arena₀ base sup l from to n₀ arena n = length arena ≡ length arena₀
+abbrev invariant_loop : tie.invariant-loop
+invariant_loop arena₀ base sup l from to n₀ arena n = length arena ≡ length arena₀
 
-abbrev decreases-loop : tie.decreases-loop
-decreases-loop arena₀ base sup l from to n₀ arena n = to + 1 - n
+abbrev decreases_loop : tie.decreases-loop
+decreases_loop arena₀ base sup l from to n₀ arena n = to + 1 - n
 
-loop-holds : tie.Need-loop-init invariant-loop decreases-loop
-loop-holds c = search rules
+loop_holds : tie.Need-loop-init invariant_loop decreases_loop
+loop_holds c = search rules
 
-step-requires : tie.Need-step-requires invariant-loop decreases-loop
-step-requires c κs = search rules
+step_requires : tie.Need-step-requires invariant_loop decreases_loop
+step_requires c κs = search rules
 
-enum_told : tie.Need-enum-told invariant-loop decreases-loop
+enum_told : tie.Need-enum-told invariant_loop decreases_loop
 enum_told c = search rules
 
-enum-told-2 : tie.Need-enum-told-2 invariant-loop decreases-loop
-enum-told-2 c = search rules
+enum_told_2 : tie.Need-enum-told-2 invariant_loop decreases_loop
+enum_told_2 c = search rules
 
-same_length : tie.Need-same-length invariant-loop decreases-loop
+same_length : tie.Need-same-length invariant_loop decreases_loop
 same_length c = search rules
 
-returns : tie.Need-returns invariant-loop decreases-loop
+returns : tie.Need-returns invariant_loop decreases_loop
 returns c = search rules
 
-add-n : tie.Need-overflow-add-n invariant-loop decreases-loop
-add-n c = search rules
+add_n : tie.Need-overflow-add-n invariant_loop decreases_loop
+add_n c = search rules
 
-loop-less : tie.Need-loop-smaller invariant-loop decreases-loop
-loop-less c = search rules
+loop_less : tie.Need-loop-smaller invariant_loop decreases_loop
+loop_less c = search rules
 
-loop-again : tie.Need-loop-preserved invariant-loop decreases-loop
-loop-again c = search rules
+loop_again : tie.Need-loop-preserved invariant_loop decreases_loop
+loop_again c = search rules
 
-same-length-2 : tie.Need-same-length-2 invariant-loop decreases-loop
-same-length-2 c = search rules
+same_length_2 : tie.Need-same-length-2 invariant_loop decreases_loop
+same_length_2 c = search rules
 
-returns-2 : tie.Need-returns-2 invariant-loop decreases-loop
-returns-2 c = search rules
+returns_2 : tie.Need-returns-2 invariant_loop decreases_loop
+returns_2 c = search rules
 
-same-length-3 : tie.Need-same-length-3 invariant-loop decreases-loop
-same-length-3 c = search rules
+same_length_3 : tie.Need-same-length-3 invariant_loop decreases_loop
+same_length_3 c = search rules
 
-returns-3 : tie.Need-returns-3 invariant-loop decreases-loop
-returns-3 c = search rules
+returns_3 : tie.Need-returns-3 invariant_loop decreases_loop
+returns_3 c = search rules
 
-pub steps-between-spec : {M : Type 1} → statement M
-steps-between-spec =
+pub steps_between_spec : {M : Type 1} → statement M
+steps_between_spec =
     tie.close
     (tie.spec
-    invariant-loop
-    decreases-loop
-    loop-holds
-    step-requires
+    invariant_loop
+    decreases_loop
+    loop_holds
+    step_requires
     enum_told
-    enum-told-2
+    enum_told_2
     same_length
     returns
-    add-n
-    loop-less
-    loop-again
-    same-length-2
-    returns-2
-    same-length-3
-    returns-3)
+    add_n
+    loop_less
+    loop_again
+    same_length_2
+    returns_2
+    same_length_3
+    returns_3)

@@ -6,63 +6,63 @@ use borrow.Author.Rules.{rules}
 use Rattle.replay_tables.proofs.store.Statement.{statement}
 use Rattle.replay_tables.proofs.store.Tie as tie
 
-abbrev invariant-loop : tie.invariant-loop
-invariant-loop arena₀ from count word i₀ i-end arena i = (i-end ≤ length arena) × (length arena ≡ length arena₀)
+abbrev invariant_loop : tie.invariant-loop
+invariant_loop arena₀ from count word i₀ i-end arena i = (i-end ≤ length arena) × (length arena ≡ length arena₀)
 
-abbrev decreases-loop : tie.decreases-loop
-decreases-loop arena₀ from count word i₀ i-end arena i = i-end - i
+abbrev decreases_loop : tie.decreases-loop
+decreases_loop arena₀ from count word i₀ i-end arena i = i-end - i
 
-returns : tie.Need-returns invariant-loop decreases-loop
+returns : tie.Need-returns invariant_loop decreases_loop
 returns c = search rules
 
-sub-if2 : tie.Need-overflow-sub-if2 invariant-loop decreases-loop
-sub-if2 c = search rules
+sub_if2 : tie.Need-overflow-sub-if2 invariant_loop decreases_loop
+sub_if2 c = search rules
 
-returns-2 : tie.Need-returns-2 invariant-loop decreases-loop
-returns-2 c = search rules
+returns_2 : tie.Need-returns-2 invariant_loop decreases_loop
+returns_2 c = search rules
 
-add-i-end : tie.Need-overflow-add-i-end invariant-loop decreases-loop
-add-i-end c = search rules
+add_i_end : tie.Need-overflow-add-i-end invariant_loop decreases_loop
+add_i_end c = search rules
 
-loop-holds : tie.Need-loop-init invariant-loop decreases-loop
-loop-holds c = search rules
+loop_holds : tie.Need-loop-init invariant_loop decreases_loop
+loop_holds c = search rules
 
-mul-arena : tie.Need-overflow-mul-arena invariant-loop decreases-loop
-mul-arena c = search rules
+mul_arena : tie.Need-overflow-mul-arena invariant_loop decreases_loop
+mul_arena c = search rules
 
-slice-write-arena : tie.Need-slice-write-arena invariant-loop decreases-loop
-slice-write-arena c = search rules
+slice_write_arena : tie.Need-slice-write-arena invariant_loop decreases_loop
+slice_write_arena c = search rules
 
-add-i : tie.Need-overflow-add-i invariant-loop decreases-loop
-add-i c = search rules
+add_i : tie.Need-overflow-add-i invariant_loop decreases_loop
+add_i c = search rules
 
-loop-less : tie.Need-loop-smaller invariant-loop decreases-loop
-loop-less c = search rules
+loop_less : tie.Need-loop-smaller invariant_loop decreases_loop
+loop_less c = search rules
 
-loop-again : tie.Need-loop-preserved invariant-loop decreases-loop
-loop-again c = search rules
+loop_again : tie.Need-loop-preserved invariant_loop decreases_loop
+loop_again c = search rules
 
-same_length : tie.Need-same-length invariant-loop decreases-loop
+same_length : tie.Need-same-length invariant_loop decreases_loop
 same_length c = search rules
 
-returns-3 : tie.Need-returns-3 invariant-loop decreases-loop
-returns-3 c = search rules
+returns_3 : tie.Need-returns-3 invariant_loop decreases_loop
+returns_3 c = search rules
 
 pub store_spec : {M : Type 1} → statement M
 store_spec =
     tie.close
     (tie.spec
-    invariant-loop
-    decreases-loop
+    invariant_loop
+    decreases_loop
     returns
-    sub-if2
-    returns-2
-    add-i-end
-    loop-holds
-    mul-arena
-    slice-write-arena
-    add-i
-    loop-less
-    loop-again
+    sub_if2
+    returns_2
+    add_i_end
+    loop_holds
+    mul_arena
+    slice_write_arena
+    add_i
+    loop_less
+    loop_again
     same_length
-    returns-3)
+    returns_3)

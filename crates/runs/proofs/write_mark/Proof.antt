@@ -6,14 +6,14 @@ use Rattle.fields.specs.Named.{pick}
 use Rattle.runs.proofs.write_mark.Statement.{statement}
 use Rattle.runs.proofs.write_mark.Tie as tie
 
-writable-requires : tie.Need-writable-requires
-writable-requires c κs = search rules
+writable_requires : tie.Need-writable-requires
+writable_requires c κs = search rules
 
 returns : tie.Need-returns
 returns c = sym (ap (λ w. pick w (ascii "RW") (ascii "RO")) (sym c.before.writable.ensures ∙ c.if1.true))
 
-returns-2 : tie.Need-returns-2
-returns-2 c = sym (ap (λ w. pick w (ascii "RW") (ascii "RO")) (sym c.before.writable.ensures ∙ c.if1.false))
+returns_2 : tie.Need-returns-2
+returns_2 c = sym (ap (λ w. pick w (ascii "RW") (ascii "RO")) (sym c.before.writable.ensures ∙ c.if1.false))
 
-pub write-mark-spec : {M : Type 1} → statement M
-write-mark-spec = tie.close (tie.spec writable-requires returns returns-2)
+pub write_mark_spec : {M : Type 1} → statement M
+write_mark_spec = tie.close (tie.spec writable_requires returns returns_2)

@@ -3,32 +3,32 @@ use Prim.Native.Nat.{ℕ}
 use mathlib.Core.List.{List}
 use mathlib.Core.Path.{sym, ap, ◌∙◌}
 use borrow.Author.Rules.{rules}
-use Rattle.annex.specs.Annex.{annexPage, annexLeft, annexOutcome, annexTold, annexOf}
+use Rattle.annex.specs.Annex.{annex_page, annex_left, annex_outcome, annex_told, annex_of}
 use Rattle.layout.specs.declared.Layout.{Layout}
-use Rattle.s2.specs.Answers.{bytesTold}
+use Rattle.s2.specs.Answers.{bytes_told}
 use Rattle.s2.proofs.s2_annex.Statement.{statement}
 use Rattle.s2.proofs.s2_annex.Tie as tie
 
-abbrev pageLeft : List ℕ → List ℕ → List ℕ → Layout → List ℕ
-pageLeft old base sup l = annexLeft (annexOutcome old base sup l) (annexPage l base sup) old
+abbrev page_left : List ℕ → List ℕ → List ℕ → Layout → List ℕ
+page_left old base sup l = annex_left (annex_outcome old base sup l) (annex_page l base sup) old
 
-layout-of-requires : tie.Need-layout-of-requires
-layout-of-requires c κs = search rules
+layout_of_requires : tie.Need-layout-of-requires
+layout_of_requires c κs = search rules
 
-annex-requires : tie.Need-annex-requires
-annex-requires c κs = search rules
+annex_requires : tie.Need-annex-requires
+annex_requires c κs = search rules
 
-enum-known-bytes : tie.Need-enum-known-bytes
-enum-known-bytes c = search rules
+enum_known_bytes : tie.Need-enum-known-bytes
+enum_known_bytes c = search rules
 
-told-requires : tie.Need-told-requires
-told-requires c κs = search rules
+told_requires : tie.Need-told-requires
+told_requires c κs = search rules
 
-enum-known-refusal : tie.Need-enum-known-refusal
-enum-known-refusal c = search rules
+enum_known_refusal : tie.Need-enum-known-refusal
+enum_known_refusal c = search rules
 
-answer-requires : tie.Need-answer-requires
-answer-requires c κs = search rules
+answer_requires : tie.Need-answer-requires
+answer_requires c κs = search rules
 
 same_length : tie.Need-same-length
 same_length c = search rules
@@ -42,16 +42,16 @@ returns c =
     let l = x.before.layout_of.ensures in
     record {
       outcome = c.told.ensures
-          ∙ ap (λ y. bytesTold (annexOf y)) (sym b.bytes.given.1)
-          ∙ ap bytesTold (e.tells ∙ ap (annexTold a.page.now a.base.now a.sup.now) l);
-      page = e.buffer ∙ ap (pageLeft a.page.now a.base.now a.sup.now) l;
+          ∙ ap (λ y. bytes_told (annex_of y)) (sym b.bytes.given.1)
+          ∙ ap bytes_told (e.tells ∙ ap (annex_told a.page.now a.base.now a.sup.now) l);
+      page = e.buffer ∙ ap (page_left a.page.now a.base.now a.sup.now) l;
     }
 
-same-length-2 : tie.Need-same-length-2
-same-length-2 c = search rules
+same_length_2 : tie.Need-same-length-2
+same_length_2 c = search rules
 
-returns-2 : tie.Need-returns-2
-returns-2 c =
+returns_2 : tie.Need-returns-2
+returns_2 c =
     let b = c.before.before.before in
     let x = b.before.before.before.before in
     let a = x.before.before.before.before.before.before.args in
@@ -59,22 +59,22 @@ returns-2 c =
     let l = x.before.layout_of.ensures in
     record {
       outcome = c.answer.ensures
-          ∙ ap (λ y. bytesTold (annexOf y)) (sym b.refusal.given.1)
-          ∙ ap bytesTold (e.tells ∙ ap (annexTold a.page.now a.base.now a.sup.now) l);
-      page = e.buffer ∙ ap (pageLeft a.page.now a.base.now a.sup.now) l;
+          ∙ ap (λ y. bytes_told (annex_of y)) (sym b.refusal.given.1)
+          ∙ ap bytes_told (e.tells ∙ ap (annex_told a.page.now a.base.now a.sup.now) l);
+      page = e.buffer ∙ ap (page_left a.page.now a.base.now a.sup.now) l;
     }
 
-pub s2-annex-spec : {M : Type 1} → statement M
-s2-annex-spec =
+pub s2_annex_spec : {M : Type 1} → statement M
+s2_annex_spec =
     tie.close
     (tie.spec
-    layout-of-requires
-    annex-requires
-    enum-known-bytes
-    told-requires
-    enum-known-refusal
-    answer-requires
+    layout_of_requires
+    annex_requires
+    enum_known_bytes
+    told_requires
+    enum_known_refusal
+    answer_requires
     same_length
     returns
-    same-length-2
-    returns-2)
+    same_length_2
+    returns_2)

@@ -40,13 +40,13 @@ use denote.Triple.Walked.{says, Stays, stay_dropped, gave_ref, Goes-dropped, Goe
 use denote.Triple.Clauses.{ensured, lasts}
 use denote.Exit.{yes}
 use Rattle.edge.specs.declared.Edge.{Edge}
-use Rattle.exact.specs.Exact.{exactRows}
-use Rattle.p2m.specs.Frame.{spanNamed}
+use Rattle.exact.specs.Exact.{exact_rows}
+use Rattle.p2m.specs.Frame.{span_named}
 use Rattle.p2m.specs.declared.Span.{Span}
-use Rattle.refusal.specs.Outcome.{outcomeOf, outcomeWords}
+use Rattle.refusal.specs.Outcome.{outcome_of, outcome_words}
 use Rattle.refusal.specs.Table.{first}
 use Rattle.refusal.specs.declared.Verdict.{Verdict}
-use Rattle.s2.specs.Answers.{exactAnswer}
+use Rattle.s2.specs.Answers.{exact_answer}
 use Rattle.edge.specs.contracts.Edge as E
 use Rattle.p2m.specs.contracts.Span as S
 use Rattle.p2m.proofs.Span.TheLaws as S'
@@ -60,7 +60,7 @@ use Rattle.exact_edges.specs.contracts.check_exact as check
 use Rattle.exact_edges.proofs.check_exact.Symbol as check-def
 use Rattle.exact_edges.proofs.check_exact.Symbol.{name as #check-exact}
 use Rattle.exact_edges.proofs.check_exact.Met as check-thm
-use Rattle.s2.proofs.Answered.{Eight, Frame, lent, Lent, last, Tells, Answer, to-answer, asks-answer, answered}
+use Rattle.s2.proofs.Answered.{Eight, Frame, lent, Lent, last, Tells, Answer, to_answer, asks_answer, answered}
 use Rattle.s2.proofs.answer.Symbol as answer-def
 use Rattle.s2.proofs.answer.Symbol.{name as #answer}
 use Rattle.s2.proofs.answer.Met as answer-thm
@@ -70,26 +70,26 @@ use Rattle.s2.proofs.s2_exact_edges.Statement as stated
 use Rattle.s2.proofs.s2_exact_edges.Code as code
 
 -- the places of the signature
-abbrev map-slot : Slot 4
-map-slot = shr_slice_of (0 ∷ []) tt (plain (λ _. u8))
+abbrev map_slot : Slot 4
+map_slot = shr_slice_of (0 ∷ []) tt (plain (λ _. u8))
 
-abbrev edges-slot : Slot 4
-edges-slot = shr_slice_of (1 ∷ []) tt (plain (λ _. E.the_row))
+abbrev edges_slot : Slot 4
+edges_slot = shr_slice_of (1 ∷ []) tt (plain (λ _. E.the_row))
 
-abbrev frames-slot : Slot 4
-frames-slot = shr_slice_of (2 ∷ []) tt (array_of (plain (λ _. u32)) 2)
+abbrev frames_slot : Slot 4
+frames_slot = shr_slice_of (2 ∷ []) tt (array_of (plain (λ _. u32)) 2)
 
-abbrev values-slot : Slot 4
-values-slot = array_of (plain (λ _. u64)) 8
+abbrev values_slot : Slot 4
+values_slot = array_of (plain (λ _. u64)) 8
 
 abbrev stayed : Stays (here.ended).signature.params (here.ended).kept
 stayed = (
   stay_dropped (plain (λ _. u16)) yes,
   (
-    stay_dropped map-slot yes,
+    stay_dropped map_slot yes,
     (
       stay_dropped (plain (λ _. u32)) yes,
-      (stay_dropped edges-slot yes, (stay_dropped frames-slot yes, (gave_ref (3 ∷ []) tt values-slot, tt))),
+      (stay_dropped edges_slot yes, (stay_dropped frames_slot yes, (gave_ref (3 ∷ []) tt values_slot, tt))),
     ),
   ),
 )
@@ -139,21 +139,21 @@ module _
     abbrev Had : SProp 𝓤
     Had = on_entry 𝓛 here.signature (κ₀, (κ₁, (κ₂, (κ₃, tt)))) (q₀, (q₁, (q₂, (q₃, tt)))) a at
 
-    abbrev to-span : (Spanned 𝓛 mem run).Ghost
-    to-span = ((tt, tt, tt, (n, tt), (vint w32 n ∷ [], tt)), tt)
+    abbrev to_span : (Spanned 𝓛 mem run).Ghost
+    to_span = ((tt, tt, tt, (n, tt), (vint w32 n ∷ [], tt)), tt)
 
-    asks-span : ent 𝓤 (emp 𝓤) ((Spanned 𝓛 mem run).pre to-span)
-    asks-span = qed 𝓛 [] ∵ nothing ! $ owned ! u32 (Is u32) (uint_Makes 𝓛 w32) n _ (refl, is-n) $ fjoin ! $ nothing ! $ join ! $
+    asks_span : ent 𝓤 (emp 𝓤) ((Spanned 𝓛 mem run).pre to_span)
+    asks_span = qed 𝓛 [] ∵ nothing ! $ owned ! u32 (Is u32) (uint_Makes 𝓛 w32) n _ (refl, is-n) $ fjoin ! $ nothing ! $ join ! $
         frame ! $ done !
 
     -- of a callee's `ensured`, the clause alone: neither has a `&mut`, so what is said of last values is dropped
-    says-span : (span : Span) → ent 𝓤 (ensured 𝓛 Span-of.ended (Span-of.clauses 𝓛 mem run) tt (n, tt) tt span)
-        (fact 𝓤 (span ≡ spanNamed n))
-    says-span span = ex_e 𝓤 _ (λ ws. snd∗ 𝓤 (sem 𝓛 (lasts Span-of.ended tt (n, tt) ws)) _)
+    says_span : (span : Span) → ent 𝓤 (ensured 𝓛 Span-of.ended (Span-of.clauses 𝓛 mem run) tt (n, tt) tt span)
+        (fact 𝓤 (span ≡ span_named n))
+    says_span span = ex_e 𝓤 _ (λ ws. snd∗ 𝓤 (sem 𝓛 (lasts Span-of.ended tt (n, tt) ws)) _)
 
     -- the call of `check_exact`, for a span at the machine value v
-    abbrev to-check : Span → Val → (Check 𝓛 mem run).Ghost
-    to-check span v = (
+    abbrev to_check : Span → Val → (Check 𝓛 mem run).Ghost
+    to_check span v = (
       (
         (κ₀, (κ₁, (κ₂, tt))),
         (q₀, (q₁, (q₂, tt))),
@@ -164,9 +164,9 @@ module _
       tt,
     )
 
-    asks-check : (span : Span) (v : Val) → Is S.the_row span (v ∷ [])
-        → ent 𝓤 Had (sep 𝓤 ((Check 𝓛 mem run).pre (to-check span v)) (sep 𝓤 (A.lft κ₃ q₃) (sem 𝓛 (Lent κ₃ b o γ before))))
-    asks-check span v is-span =
+    asks_check : (span : Span) (v : Val) → Is S.the_row span (v ∷ [])
+        → ent 𝓤 Had (sep 𝓤 ((Check 𝓛 mem run).pre (to_check span v)) (sep 𝓤 (A.lft κ₃ q₃) (sem 𝓛 (Lent κ₃ b o γ before))))
+    asks_check span v is-span =
         qed 𝓛 ((‵ (flft κ₀ q₀) ⊛ (‵ (flft κ₁ q₁) ⊛ (‵ (flft κ₂ q₂) ⊛ (‵ (flft κ₃ q₃) ⊛ ‵ ftrue))))
         ∷ ‵ (owns (u16 ∷ ShrSlice (named 0) κ₀ u8 ∷ u32 ∷ ShrSlice (named 1) κ₁ E.the_row ∷ ShrSlice (named 2) κ₂ Frame
         ∷ MutRef (named 3) κ₃ Eight ∷ []) a at) ∷ []) ∵
@@ -183,21 +183,21 @@ module _
         move ! (1 ∷ 0 ∷ []) $ join ! $ frame ! $ keep ! (2 ∷ 0 ∷ []) $ done !
 
     abbrev Checked : Span → Verdict → Type 0
-    Checked span verdict = outcomeOf verdict ≡ first (exactRows frames.now dom span edges.now leaves.now)
+    Checked span verdict = outcome_of verdict ≡ first (exact_rows frames.now dom span edges.now leaves.now)
 
-    says-check : (span : Span) (verdict : Verdict)
+    says_check : (span : Span) (verdict : Verdict)
         → ent 𝓤 (ensured 𝓛 check.ended (check.clauses 𝓛 mem run) (κ₀, (κ₁, (κ₂, tt)))
         (dom, (leaves, (span, (edges, (frames, tt))))) tt verdict) (fact 𝓤 (Checked span verdict))
-    says-check span verdict = ex_e 𝓤 _
+    says_check span verdict = ex_e 𝓤 _
         (λ ws. snd∗ 𝓤 (sem 𝓛 (lasts check.ended (κ₀, (κ₁, (κ₂, tt))) (dom, (leaves, (span, (edges, (frames, tt))))) ws)) _)
 
-    is-answer : (span : Span) (verdict : Verdict) (r : ℕ) (ws : List ℕ) → span ≡ spanNamed n → Checked span verdict → Tells verdict r ws
-        → (r ∷ ws) ≡ exactAnswer dom leaves.now n edges.now frames.now
-    is-answer span verdict r ws spanned checked tells =
-        tells ∙ ap outcomeWords checked
-        ∙ ap (λ (s : Span). outcomeWords (first (exactRows frames.now dom s edges.now leaves.now))) spanned
+    is_answer : (span : Span) (verdict : Verdict) (r : ℕ) (ws : List ℕ) → span ≡ span_named n → Checked span verdict → Tells verdict r ws
+        → (r ∷ ws) ≡ exact_answer dom leaves.now n edges.now frames.now
+    is_answer span verdict r ws spanned checked tells =
+        tells ∙ ap outcome_words checked
+        ∙ ap (λ (s : Span). outcome_words (first (exact_rows frames.now dom s edges.now leaves.now))) spanned
 
-    exits : (r : ℕ) (ws : List ℕ) (u : Val) → (r ∷ ws) ≡ exactAnswer dom leaves.now n edges.now frames.now
+    exits : (r : ℕ) (ws : List ℕ) (u : Val) → (r ∷ ws) ≡ exact_answer dom leaves.now n edges.now frames.now
         → ent 𝓤 (⋆ 𝓛 ((‵ (flft κ₀ q₀) ⊛ (‵ (flft κ₁ q₁) ⊛ (‵ (flft κ₂ q₂) ⊛ ‵ ftrue))) ∷ ‵ (flft κ₃ q₃) ∷ ‵ (last γ ws)
         ∷ ‵ (u32.own_val r (u ∷ [])) ∷ [])) (Post u)
     exits r ws u e =
@@ -231,19 +231,19 @@ module _
         pass1 ! (init ! 8 refl ((shr_slice_Lawful 𝓛 (named 2) κ₂ Frame).typed frames _ is-frames).0) $
         pass1 ! (init ! 6 refl (tt, tt)) $ pass0 ! $
         -- [_9; …; _8; …; _7; …; _6; …; _5; …; _4; …; _3; …; _2; …; _1; …; room for _0; …; what is had at entry]
-        use0 𝓛 (raw ((Spanned 𝓛 mem run).pre to-span)) asks-span $
-        calls_at ! fm (Spanned 𝓛 mem run) known-span to-span (and_then ! (load ! (from ! (stop !)) (look ! 13 refl)) (no_more !)) (λ v.
+        use0 𝓛 (raw ((Spanned 𝓛 mem run).pre to_span)) asks_span $
+        calls_at ! fm (Spanned 𝓛 mem run) known-span to_span (and_then ! (load ! (from ! (stop !)) (look ! 13 refl)) (no_more !)) (λ v.
         use1 𝓛 (later (some (λ (r : Span). (‵ ftrue ⊛ ‵ ((S.the_row).own_val r (v ∷ [])))
         ⊛ raw (ensured 𝓛 Span-of.ended (Span-of.clauses 𝓛 mem run) tt (n, tt) tt r)))) (id⊢ 𝓤 _) $ await ! tt $ pick ! (λ span.
-        split ! $ move ! (1 ∷ []) $ use1 𝓛 (raw (fact 𝓤 (span ≡ spanNamed n))) (says-span span) $
-        heard ! (span ≡ spanNamed n) (λ spanned. split ! $ drop ! $
+        split ! $ move ! (1 ∷ []) $ use1 𝓛 (raw (fact 𝓤 (span ≡ span_named n))) (says_span span) $
+        heard ! (span ≡ span_named n) (λ spanned. split ! $ drop ! $
         facts ! S.the_row (Is S.the_row) (shows 𝓛 S.the_row) span (v ∷ []) (λ is-span.
         land ! (from ! (stop !)) (init ! 4 refl ((EL.lawful S.the_type S'.the_laws 𝓛 tt).typed span _ is-span).0) $
         -- what is lent for reading goes to `check_exact`
-        move ! (20 ∷ []) $ use1 𝓛 (raw ((Check 𝓛 mem run).pre (to-check span v)) ⊛ (‵ (flft κ₃ q₃) ⊛ ‵ (Lent κ₃ b o γ before)))
-        (asks-check span v is-span) $ split ! $
+        move ! (20 ∷ []) $ use1 𝓛 (raw ((Check 𝓛 mem run).pre (to_check span v)) ⊛ (‵ (flft κ₃ q₃) ⊛ ‵ (Lent κ₃ b o γ before)))
+        (asks_check span v is-span) $ split ! $
         -- [what `check_exact` asks; κ₃'s token and the values; _9; …]
-        calls_at ! fm (Check 𝓛 mem run) known-check (to-check span v)
+        calls_at ! fm (Check 𝓛 mem run) known-check (to_check span v)
         (and_then ! (load ! (from ! (stop !)) (look ! 18 refl))
         (and_then ! (load ! (from ! (stop !)) (look ! 16 refl))
         (and_then ! (load ! (from ! (stop !)) (look ! 6 refl))
@@ -253,17 +253,17 @@ module _
         ((‵ (flft κ₀ q₀) ⊛ (‵ (flft κ₁ q₁) ⊛ (‵ (flft κ₂ q₂) ⊛ ‵ ftrue))) ⊛ ‵ ((R.the_row).own_val r (u ∷ [])))
         ⊛ raw (ensured 𝓛 check.ended (check.clauses 𝓛 mem run) (κ₀, (κ₁, (κ₂, tt)))
         (dom, (leaves, (span, (edges, (frames, tt))))) tt r)))) (id⊢ 𝓤 _) $ await ! tt $ pick ! (λ verdict.
-        split ! $ move ! (1 ∷ []) $ use1 𝓛 (raw (fact 𝓤 (Checked span verdict))) (says-check span verdict) $
+        split ! $ move ! (1 ∷ []) $ use1 𝓛 (raw (fact 𝓤 (Checked span verdict))) (says_check span verdict) $
         heard ! (Checked span verdict) (λ checked. split ! $ move ! (1 ∷ []) $
         -- [the verdict; three tokens; κ₃'s token and the values; _9; …]
         peeks ! R.the_row (Is R.the_row) (shows 𝓛 R.the_row) verdict (u ∷ []) (λ is-verdict.
         land ! (from ! (stop !)) (init ! 5 refl ((EL.lawful R.the_type R'.the_laws 𝓛 tt).typed verdict _ is-verdict).0) $
         assigns ! (addr ! (from ! (hop ! (look ! 9 refl) (stop !)))) (from ! (stop !)) (init ! 3 refl (tt, tt)) $
         -- the verdict and the values go to `answer`
-        move ! (0 ∷ 2 ∷ []) $ use2 𝓛 (raw ((Answer 𝓛 mem run).pre (to-answer 𝓛 mem run κ₃ q₃ b o γ before verdict u)))
-        (asks-answer 𝓛 mem run κ₃ q₃ b o γ before verdict u) $
+        move ! (0 ∷ 2 ∷ []) $ use2 𝓛 (raw ((Answer 𝓛 mem run).pre (to_answer 𝓛 mem run κ₃ q₃ b o γ before verdict u)))
+        (asks_answer 𝓛 mem run κ₃ q₃ b o γ before verdict u) $
         -- [what `answer` asks; three tokens; _9; …]
-        calls_at ! fm (Answer 𝓛 mem run) known-answer (to-answer 𝓛 mem run κ₃ q₃ b o γ before verdict u)
+        calls_at ! fm (Answer 𝓛 mem run) known-answer (to_answer 𝓛 mem run κ₃ q₃ b o γ before verdict u)
         (and_then ! (load ! (from ! (stop !)) (look ! 4 refl)) (and_then ! (load ! (from ! (stop !)) (look ! 2 refl)) (no_more !))) (λ w.
         use1 𝓛 (later (some (λ (r : ℕ). some
         (λ (ws : List ℕ). given (Tells verdict r ws) (‵ (flft κ₃ q₃) ⊛ (‵ (last γ ws) ⊛ ‵ (u32.own_val r (w ∷ []))))))))
@@ -277,7 +277,7 @@ module _
         -- each local's room, and that it dies
         keep ! (22 ∷ 23 ∷ 20 ∷ 21 ∷ 18 ∷ 19 ∷ 16 ∷ 17 ∷ 14 ∷ 15 ∷ 12 ∷ 13 ∷ 10 ∷ 11 ∷ 8 ∷ 9 ∷ 6 ∷ 7 ∷ 4 ∷ 5 ∷ 3 ∷ 2 ∷ 1 ∷ 0 ∷ []) $
         free1 ! $ free1 ! $ free1 ! $ free1 ! $ free1 ! $ free1 ! $ free1 ! $ free1 ! $ free1 ! $ free1 ! $ free0 ! $
-        by ! (exits r ws w (is-answer span verdict r ws spanned checked tells)))))))))))))))))))))))))
+        by ! (exits r ws w (is_answer span verdict r ws spanned checked tells)))))))))))))))))))))))))
 
 module _
     {M : Type 1} {𝓤 : Ura M} (𝓛 : Logic 𝓤) (mem : Memory → SProp 𝓤) (run : Routine → Fun 𝓤) (𝓣 : Tables 𝓤 𝓛.H)
@@ -313,21 +313,21 @@ module _
     meets = walk_Meets 𝓛 here.ended stayed (
       Goes-dropped 𝓛 4 (plain (λ _. u16)) yes (λ κs x f. refl),
       (
-        Goes-dropped 𝓛 4 map-slot yes (λ κs x f. refl),
+        Goes-dropped 𝓛 4 map_slot yes (λ κs x f. refl),
         (
           Goes-dropped 𝓛 4 (plain (λ _. u32)) yes (λ κs x f. refl),
           (
-            Goes-dropped 𝓛 4 edges-slot yes (λ κs x f. refl),
-            (Goes-dropped 𝓛 4 frames-slot yes (λ κs x f. refl), (Goes-gave_ref 𝓛 4 3 tt values-slot, tt)),
+            Goes-dropped 𝓛 4 edges_slot yes (λ κs x f. refl),
+            (Goes-dropped 𝓛 4 frames_slot yes (λ κs x f. refl), (Goes-gave_ref 𝓛 4 3 tt values_slot, tt)),
           ),
         ),
       ),
     )
         (here.clauses 𝓛 mem run) (WpFn 𝓤 H 𝓣.C 𝓣.Λ code.function) (WpFn-mono 𝓤 H 𝓛.laws 𝓣 code.function) walks
 
-pub s2-exact-edges-spec : {M : Type 1} → stated.statement M
+pub s2_exact_edges_spec : {M : Type 1} → stated.statement M
 unfolding code.routine tables_of
-s2-exact-edges-spec 𝓤 𝓛 𝓜 𝓡 =
+s2_exact_edges_spec 𝓤 𝓛 𝓜 𝓡 =
     entered 𝓤 𝓛.H (triple_of 𝓛 here.signature (here.spec 𝓛 𝓜.mem 𝓡.run))
     (tables 𝓤 𝓛.H 𝓜 𝓡 code.env).C (tables 𝓤 𝓛.H 𝓜 𝓡 code.env).Λ #s2-exact-edges code.function (code.unfolded 𝓤 𝓛.H 𝓜 𝓡)
     (meets 𝓛 𝓜.mem 𝓡.run (tables_of 𝓤 𝓛.H 𝓜 (tables 𝓤 𝓛.H 𝓜 𝓡 code.env))

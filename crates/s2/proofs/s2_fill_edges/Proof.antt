@@ -44,9 +44,9 @@ use denote.Triple.Clauses.{ensured, lasts}
 use denote.Exit.{yes}
 use Rattle.edge.specs.declared.Edge.{Edge}
 use Rattle.filling.specs.Filling.{filling, filled}
-use Rattle.refusal.specs.Outcome.{outcomeOf}
+use Rattle.refusal.specs.Outcome.{outcome_of}
 use Rattle.refusal.specs.declared.Verdict.{Verdict}
-use Rattle.s2.specs.Answers.{fillingWords, fillAnswer}
+use Rattle.s2.specs.Answers.{filling_words, fill_answer}
 use Rattle.edge.specs.contracts.Edge as E
 use Rattle.refusal.specs.contracts.Verdict as R
 use Rattle.refusal.proofs.Verdict.TheLaws as R'
@@ -54,7 +54,7 @@ use Rattle.leafmap_edges.specs.contracts.leaf_map_from_edges as fill
 use Rattle.leafmap_edges.proofs.leaf_map_from_edges.Symbol as fill-def
 use Rattle.leafmap_edges.proofs.leaf_map_from_edges.Symbol.{name as #fill}
 use Rattle.leafmap_edges.proofs.leaf_map_from_edges.Met as fill-thm
-use Rattle.s2.proofs.Answered.{Eight, Frame, lent, Lent, last, Tells, Answer, to-answer, asks-answer, answered}
+use Rattle.s2.proofs.Answered.{Eight, Frame, lent, Lent, last, Tells, Answer, to_answer, asks_answer, answered}
 use Rattle.s2.proofs.answer.Symbol as answer-def
 use Rattle.s2.proofs.answer.Symbol.{name as #answer}
 use Rattle.s2.proofs.answer.Met as answer-thm
@@ -64,23 +64,23 @@ use Rattle.s2.proofs.s2_fill_edges.Statement as stated
 use Rattle.s2.proofs.s2_fill_edges.Code as code
 
 -- the places of the signature
-abbrev edges-slot : Slot 5
-edges-slot = shr_slice_of (0 ∷ []) tt (plain (λ _. E.the_row))
+abbrev edges_slot : Slot 5
+edges_slot = shr_slice_of (0 ∷ []) tt (plain (λ _. E.the_row))
 
-abbrev frames-slot : Slot 5
-frames-slot = shr_slice_of (1 ∷ []) tt (array_of (plain (λ _. u32)) 2)
+abbrev frames_slot : Slot 5
+frames_slot = shr_slice_of (1 ∷ []) tt (array_of (plain (λ _. u32)) 2)
 
-abbrev values-slot : Slot 5
-values-slot = array_of (plain (λ _. u64)) 8
+abbrev values_slot : Slot 5
+values_slot = array_of (plain (λ _. u64)) 8
 
 abbrev stayed : Stays (here.ended).signature.params (here.ended).kept
 stayed = (
-  stay_dropped edges-slot yes,
+  stay_dropped edges_slot yes,
   (
-    stay_dropped frames-slot yes,
+    stay_dropped frames_slot yes,
     (
       stay_dropped (plain (λ _. u16)) yes,
-      (gave_slice (2 ∷ []) tt (plain (λ _. u8)), (gave_slice (3 ∷ []) tt (plain (λ _. u8)), (gave_ref (4 ∷ []) tt values-slot, tt))),
+      (gave_slice (2 ∷ []) tt (plain (λ _. u8)), (gave_slice (3 ∷ []) tt (plain (λ _. u8)), (gave_ref (4 ∷ []) tt values_slot, tt))),
     ),
   ),
 )
@@ -142,8 +142,8 @@ module _
       tt,
     )
 
-    asks-fill : ent 𝓤 Had (sep 𝓤 ((Fill 𝓛 mem run).pre to_fill) (sep 𝓤 (A.lft κ₄ q₄) (sem 𝓛 (Lent κ₄ b o γ before))))
-    asks-fill =
+    asks_fill : ent 𝓤 Had (sep 𝓤 ((Fill 𝓛 mem run).pre to_fill) (sep 𝓤 (A.lft κ₄ q₄) (sem 𝓛 (Lent κ₄ b o γ before))))
+    asks_fill =
         qed 𝓛 ((‵ (flft κ₀ q₀) ⊛ (‵ (flft κ₁ q₁) ⊛ (‵ (flft κ₂ q₂) ⊛ (‵ (flft κ₃ q₃) ⊛ (‵ (flft κ₄ q₄) ⊛ ‵ ftrue)))))
         ∷ ‵ (owns (ShrSlice (named 0) κ₀ E.the_row ∷ ShrSlice (named 1) κ₁ Frame ∷ u16 ∷ MutSlice (named 2) κ₂ u8 ∷ MutSlice (named 3) κ₃ u8
         ∷ MutRef (named 4) κ₄ Eight ∷ []) a at) ∷ []) ∵
@@ -160,7 +160,7 @@ module _
 
     -- what the call leaves in both maps, as long as they were
     abbrev Same : Verdict → List ℕ → List ℕ → Type 0
-    Same verdict zs ys = filling zs ys (outcomeOf verdict) ≡ filled frames.now dom edges.now base.now sup.now
+    Same verdict zs ys = filling zs ys (outcome_of verdict) ≡ filled frames.now dom edges.now base.now sup.now
 
     abbrev Fills : Verdict → List ℕ → List ℕ → Type 0
     Fills verdict zs ys = (length zs ≡ length base.now) × ((length ys ≡ length sup.now) × Same verdict zs ys)
@@ -168,11 +168,11 @@ module _
     abbrev Ends : List ℕ → List ℕ → SProp 𝓤
     Ends zs ys = sep 𝓤 (sem 𝓛 (finally u8 base.ghost_name zs)) (sem 𝓛 (finally u8 sup.ghost_name ys))
 
-    says-fill : (verdict : Verdict)
+    says_fill : (verdict : Verdict)
         → ent 𝓤 (ensured 𝓛 fill.ended (fill.clauses 𝓛 mem run) (κ₀, (κ₁, (κ₂, (κ₃, tt))))
         (edges, (frames, (dom, (base, (sup, tt))))) tt verdict)
         (ex 𝓤 (λ (zs : List ℕ). ex 𝓤 (λ (ys : List ℕ). guard 𝓤 (Fills verdict zs ys) (Ends zs ys))))
-    says-fill verdict =
+    says_fill verdict =
         qed 𝓛 (raw (ensured 𝓛 fill.ended (fill.clauses 𝓛 mem run) (κ₀, (κ₁, (κ₂, (κ₃, tt))))
         (edges, (frames, (dom, (base, (sup, tt))))) tt verdict) ∷ []) ∵
         use1 𝓛 (some (λ (zs : Unit {0}
@@ -189,10 +189,10 @@ module _
         check ! (l, (l', same)) $ keep ! (2 ∷ 0 ∷ []) $ done !))))
 
     abbrev Is-answer : ℕ → List ℕ → List ℕ → List ℕ → Type 0
-    Is-answer r ws zs ys = ((r ∷ ws) ∷ zs ∷ ys ∷ []) ≡ fillAnswer edges.now frames.now dom base.now sup.now
+    Is-answer r ws zs ys = ((r ∷ ws) ∷ zs ∷ ys ∷ []) ≡ fill_answer edges.now frames.now dom base.now sup.now
 
-    is-answer : (verdict : Verdict) (r : ℕ) (ws zs ys : List ℕ) → Same verdict zs ys → Tells verdict r ws → Is-answer r ws zs ys
-    is-answer verdict r ws zs ys same tells = ap (λ (w : List ℕ). w ∷ zs ∷ ys ∷ []) tells ∙ ap fillingWords same
+    is_answer : (verdict : Verdict) (r : ℕ) (ws zs ys : List ℕ) → Same verdict zs ys → Tells verdict r ws → Is-answer r ws zs ys
+    is_answer verdict r ws zs ys same tells = ap (λ (w : List ℕ). w ∷ zs ∷ ys ∷ []) tells ∙ ap filling_words same
 
     exits : (r : ℕ) (ws zs ys : List ℕ) (u : Val) → length zs ≡ length base.now → length ys ≡ length sup.now → Is-answer r ws zs ys
         → ent 𝓤 (⋆ 𝓛 ((‵ (flft κ₀ q₀) ⊛ (‵ (flft κ₁ q₁) ⊛ (‵ (flft κ₂ q₂) ⊛ (‵ (flft κ₃ q₃) ⊛ ‵ ftrue))))
@@ -240,7 +240,7 @@ module _
         (and_then ! (load ! (from ! (fld ! refl (stop !))) (look_in ! 14 (sub ! 1 refl (whole !)))) (no_more !)))) (from ! (stop !))
         (init ! 2 refl (tt, (tt, (record { fits = sup-room.0 }, tt)))) $
         -- all but the values goes to `leaf_map_from_edges`
-        move ! (26 ∷ []) $ use1 𝓛 (raw ((Fill 𝓛 mem run).pre to_fill) ⊛ (‵ (flft κ₄ q₄) ⊛ ‵ (Lent κ₄ b o γ before))) asks-fill $
+        move ! (26 ∷ []) $ use1 𝓛 (raw ((Fill 𝓛 mem run).pre to_fill) ⊛ (‵ (flft κ₄ q₄) ⊛ ‵ (Lent κ₄ b o γ before))) asks_fill $
         split ! $
         -- [what `leaf_map_from_edges` asks; κ₄'s token and the values; _12; …]
         calls_at ! fm (Fill 𝓛 mem run) known-fill to_fill
@@ -254,7 +254,7 @@ module _
         (edges, (frames, (dom, (base, (sup, tt))))) tt r)))) (id⊢ 𝓤 _) $ await ! tt $ pick ! (λ verdict.
         split ! $ move ! (1 ∷ []) $ use1 𝓛
         (some (λ (zs : List ℕ). some (λ (ys : List ℕ). given (Fills verdict zs ys)
-        (‵ (finally u8 base.ghost_name zs) ⊛ ‵ (finally u8 sup.ghost_name ys))))) (says-fill verdict) $
+        (‵ (finally u8 base.ghost_name zs) ⊛ ‵ (finally u8 sup.ghost_name ys))))) (says_fill verdict) $
         pick ! (λ zs. pick ! (λ ys. learn ! (λ fills.
         move ! (1 ∷ []) $ split ! $ move ! (1 ∷ []) $
         -- [the verdict; four tokens; both maps' last lists; κ₄'s token and the values; _12; …]
@@ -262,10 +262,10 @@ module _
         land ! (from ! (stop !)) (init ! 14 refl ((EL.lawful R.the_type R'.the_laws 𝓛 tt).typed verdict _ is-verdict).0) $
         assigns ! (addr ! (from ! (hop ! (look ! 16 refl) (stop !)))) (from ! (stop !)) (init ! 4 refl (tt, tt)) $
         -- the verdict and the values go to `answer`
-        move ! (0 ∷ 3 ∷ []) $ use2 𝓛 (raw ((Answer 𝓛 mem run).pre (to-answer 𝓛 mem run κ₄ q₄ b o γ before verdict u)))
-        (asks-answer 𝓛 mem run κ₄ q₄ b o γ before verdict u) $
+        move ! (0 ∷ 3 ∷ []) $ use2 𝓛 (raw ((Answer 𝓛 mem run).pre (to_answer 𝓛 mem run κ₄ q₄ b o γ before verdict u)))
+        (asks_answer 𝓛 mem run κ₄ q₄ b o γ before verdict u) $
         -- [what `answer` asks; four tokens; both maps' last lists; _12; …]
-        calls_at ! fm (Answer 𝓛 mem run) known-answer (to-answer 𝓛 mem run κ₄ q₄ b o γ before verdict u)
+        calls_at ! fm (Answer 𝓛 mem run) known-answer (to_answer 𝓛 mem run κ₄ q₄ b o γ before verdict u)
         (and_then ! (load ! (from ! (stop !)) (look ! 13 refl)) (and_then ! (load ! (from ! (stop !)) (look ! 3 refl)) (no_more !))) (λ w.
         use1 𝓛 (later (some (λ (r : ℕ). some
         (λ (ws : List ℕ). given (Tells verdict r ws) (‵ (flft κ₄ q₄) ⊛ (‵ (last γ ws) ⊛ ‵ (u32.own_val r (w ∷ []))))))))
@@ -281,7 +281,7 @@ module _
         ∷ 3 ∷ 4 ∷ 2 ∷ 1 ∷ 0 ∷ []) $
         free1 ! $ free1 ! $ free1 ! $ free1 ! $ free1 ! $ free1 ! $ free1 ! $ free1 ! $ free1 ! $ free1 ! $ free1 ! $ free1 ! $ free1 ! $
         free0 ! $
-        by ! (exits r ws zs ys w fills.0 fills.1.0 (is-answer verdict r ws zs ys fills.1.1 tells))))))))))))))))))))))))))
+        by ! (exits r ws zs ys w fills.0 fills.1.0 (is_answer verdict r ws zs ys fills.1.1 tells))))))))))))))))))))))))))
 
 module _
     {M : Type 1} {𝓤 : Ura M} (𝓛 : Logic 𝓤) (mem : Memory → SProp 𝓤) (run : Routine → Fun 𝓤) (𝓣 : Tables 𝓤 𝓛.H)
@@ -315,23 +315,23 @@ module _
 
     meets : Meets 𝓛 here.signature (WpFn 𝓤 H 𝓣.C 𝓣.Λ code.function) (here.spec 𝓛 mem run)
     meets = walk_Meets 𝓛 here.ended stayed (
-      Goes-dropped 𝓛 5 edges-slot yes (λ κs x f. refl),
+      Goes-dropped 𝓛 5 edges_slot yes (λ κs x f. refl),
       (
-        Goes-dropped 𝓛 5 frames-slot yes (λ κs x f. refl),
+        Goes-dropped 𝓛 5 frames_slot yes (λ κs x f. refl),
         (
           Goes-dropped 𝓛 5 (plain (λ _. u16)) yes (λ κs x f. refl),
           (
             Goes-gave_slice 𝓛 5 2 tt (plain (λ _. u8)),
-            (Goes-gave_slice 𝓛 5 3 tt (plain (λ _. u8)), (Goes-gave_ref 𝓛 5 4 tt values-slot, tt)),
+            (Goes-gave_slice 𝓛 5 3 tt (plain (λ _. u8)), (Goes-gave_ref 𝓛 5 4 tt values_slot, tt)),
           ),
         ),
       ),
     )
         (here.clauses 𝓛 mem run) (WpFn 𝓤 H 𝓣.C 𝓣.Λ code.function) (WpFn-mono 𝓤 H 𝓛.laws 𝓣 code.function) walks
 
-pub s2-fill-edges-spec : {M : Type 1} → stated.statement M
+pub s2_fill_edges_spec : {M : Type 1} → stated.statement M
 unfolding code.routine tables_of
-s2-fill-edges-spec 𝓤 𝓛 𝓜 𝓡 =
+s2_fill_edges_spec 𝓤 𝓛 𝓜 𝓡 =
     entered 𝓤 𝓛.H (triple_of 𝓛 here.signature (here.spec 𝓛 𝓜.mem 𝓡.run))
     (tables 𝓤 𝓛.H 𝓜 𝓡 code.env).C (tables 𝓤 𝓛.H 𝓜 𝓡 code.env).Λ #s2-fill-edges code.function (code.unfolded 𝓤 𝓛.H 𝓜 𝓡)
     (meets 𝓛 𝓜.mem 𝓡.run (tables_of 𝓤 𝓛.H 𝓜 (tables 𝓤 𝓛.H 𝓜 𝓡 code.env))

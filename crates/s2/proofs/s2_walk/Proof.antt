@@ -2,29 +2,29 @@
 use mathlib.Core.Path.{ap, sym, ◌∙◌}
 use native.Mathlib.Omega.{arith}
 use borrow.Author.Rules.{rules}
-use Rattle.reach.specs.Reach.{reachValues, toldOf}
+use Rattle.reach.specs.Reach.{reach_values, told_of}
 use Rattle.reach.specs.declared.Walked.{Walked}
-use Rattle.refusal.specs.Told.{toldWords}
+use Rattle.refusal.specs.Told.{told_words}
 use Rattle.s2.proofs.s2_walk.Statement.{statement}
 use Rattle.s2.proofs.s2_walk.Tie as tie
 
-walk-requires : tie.Need-walk-requires
-walk-requires c κs = search rules
+walk_requires : tie.Need-walk-requires
+walk_requires c κs = search rules
 
-enum-known-reached : tie.Need-enum-known-reached
-enum-known-reached c = search rules
+enum_known_reached : tie.Need-enum-known-reached
+enum_known_reached c = search rules
 
-words-requires : tie.Need-words-requires
-words-requires c κs = search rules
+words_requires : tie.Need-words-requires
+words_requires c κs = search rules
 
-told-requires : tie.Need-told-requires
-told-requires c κs = rw c.before.words.ensures (omega arith)
+told_requires : tie.Need-told-requires
+told_requires c κs = rw c.before.words.ensures (omega arith)
 
-enum-known-refusal : tie.Need-enum-known-refusal
-enum-known-refusal c = search rules
+enum_known_refusal : tie.Need-enum-known-refusal
+enum_known_refusal c = search rules
 
-answer-requires : tie.Need-answer-requires
-answer-requires c κs = search rules
+answer_requires : tie.Need-answer-requires
+answer_requires c κs = search rules
 
 returns : tie.Need-returns
 returns c =
@@ -33,26 +33,26 @@ returns c =
     let v = t.before.before.walk in
     c.told.ensures
     ∙ w.words.ensures
-    ∙ ap (λ (x : Walked). toldWords reachValues (toldOf x)) (sym t.reached.given.1)
-    ∙ ap (toldWords reachValues) v.ensures
+    ∙ ap (λ (x : Walked). told_words reach_values (told_of x)) (sym t.reached.given.1)
+    ∙ ap (told_words reach_values) v.ensures
 
-returns-2 : tie.Need-returns-2
-returns-2 c =
+returns_2 : tie.Need-returns-2
+returns_2 c =
     let t = c.before.before.before in
     let v = t.before.before.walk in
     c.answer.ensures
-    ∙ ap (λ (x : Walked). toldWords reachValues (toldOf x)) (sym t.refusal.given.1)
-    ∙ ap (toldWords reachValues) v.ensures
+    ∙ ap (λ (x : Walked). told_words reach_values (told_of x)) (sym t.refusal.given.1)
+    ∙ ap (told_words reach_values) v.ensures
 
-pub s2-walk-spec : {M : Type 1} → statement M
-s2-walk-spec =
+pub s2_walk_spec : {M : Type 1} → statement M
+s2_walk_spec =
     tie.close
     (tie.spec
-    walk-requires
-    enum-known-reached
-    words-requires
-    told-requires
-    enum-known-refusal
-    answer-requires
+    walk_requires
+    enum_known_reached
+    words_requires
+    told_requires
+    enum_known_refusal
+    answer_requires
     returns
-    returns-2)
+    returns_2)

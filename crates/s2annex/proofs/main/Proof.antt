@@ -6,17 +6,17 @@ use Rattle.printed.proofs.Front.{lies_within}
 use Rattle.s2annex.proofs.main.Statement.{statement}
 use Rattle.s2annex.proofs.main.Tie as tie
 
-read-page-requires : tie.Need-read-page-requires
-read-page-requires c κs = search rules
+read_page_requires : tie.Need-read-page-requires
+read_page_requires c κs = search rules
 
-array-share-prefix-page : tie.Need-array-share-prefix-page
-array-share-prefix-page c = lies_within _ _ _ _ c.read-page.ensures.1
+array_share_prefix_page : tie.Need-array-share-prefix-page
+array_share_prefix_page c = lies_within _ _ _ _ c.read-page.ensures.1
 
-slice-aggregate-write-all : tie.Need-slice-aggregate-write-all
-slice-aggregate-write-all c = sym (length-take-le _ _ (lies_within _ _ _ _ c.before.read-page.ensures.1))
+slice_aggregate_write_all : tie.Need-slice-aggregate-write-all
+slice_aggregate_write_all c = sym (length-take-le _ _ (lies_within _ _ _ _ c.before.read-page.ensures.1))
 
-write-all-requires : tie.Need-write-all-requires
-write-all-requires c κs = search rules
+write_all_requires : tie.Need-write-all-requires
+write_all_requires c κs = search rules
 
 returns : tie.Need-returns
 returns c = search rules
@@ -25,8 +25,8 @@ pub main_spec : {M : Type 1} → statement M
 main_spec =
     tie.close
     (tie.spec
-    read-page-requires
-    array-share-prefix-page
-    slice-aggregate-write-all
-    write-all-requires
+    read_page_requires
+    array_share_prefix_page
+    slice_aggregate_write_all
+    write_all_requires
     returns)

@@ -7,14 +7,14 @@ use Rattle.scene.proofs.place_of.Tie as tie
 returns : tie.Need-returns
 returns c = rw c.if1.true
 
-sub-result : tie.Need-overflow-sub-result
-sub-result c = search rules
+sub_result : tie.Need-overflow-sub-result
+sub_result c = search rules
 
-returns-2 : tie.Need-returns-2
-returns-2 c = simp (lt-ltb _ _ c.if2.true)
+returns_2 : tie.Need-returns-2
+returns_2 c = simp (lt-ltb _ _ c.if2.true)
 
-returns-3 : tie.Need-returns-3
-returns-3 c = simp (le-ltb _ _ c.if2.false)
+returns_3 : tie.Need-returns-3
+returns_3 c = simp (le-ltb _ _ c.if2.false)
 
-pub place-of-spec : {M : Type 1} → statement M
-place-of-spec = tie.close (tie.spec returns sub-result returns-2 returns-3)
+pub place_of_spec : {M : Type 1} → statement M
+place_of_spec = tie.close (tie.spec returns sub_result returns_2 returns_3)

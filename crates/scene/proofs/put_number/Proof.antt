@@ -5,11 +5,11 @@ use borrow.Author.Rules.{rules}
 use Rattle.scene.proofs.put_number.Statement.{statement}
 use Rattle.scene.proofs.put_number.Tie as tie
 
-mul-numbers : tie.Need-overflow-mul-numbers
-mul-numbers c = search rules
+mul_numbers : tie.Need-overflow-mul-numbers
+mul_numbers c = search rules
 
-slice-write-numbers : tie.Need-slice-write-numbers
-slice-write-numbers c = search rules
+slice_write_numbers : tie.Need-slice-write-numbers
+slice_write_numbers c = search rules
 
 same_length : tie.Need-same-length
 same_length c = search rules
@@ -17,9 +17,9 @@ same_length c = search rules
 returns : tie.Need-returns
 returns c = search rules
 
-returns-2 : tie.Need-returns-2
-returns-2 c = sym (set_out _ _ _ c.if1.false)
+returns_2 : tie.Need-returns-2
+returns_2 c = sym (set_out _ _ _ c.if1.false)
 
-pub put-number-spec : {M : Type 1} → statement M
-put-number-spec =
-    tie.close (tie.spec mul-numbers slice-write-numbers same_length returns returns-2)
+pub put_number_spec : {M : Type 1} → statement M
+put_number_spec =
+    tie.close (tie.spec mul_numbers slice_write_numbers same_length returns returns_2)

@@ -8,13 +8,13 @@ returns : tie.Need-returns
 unfolding said
 returns c = rw (lt-leb _ _ c.if1.true)
 
-returns-2 : tie.Need-returns-2
+returns_2 : tie.Need-returns-2
 unfolding said
-returns-2 c = rw (le-leb _ _ c.before.if1.false, lt-leb _ _ c.if2.true)
+returns_2 c = rw (le-leb _ _ c.before.if1.false, lt-leb _ _ c.if2.true)
 
-returns-3 : tie.Need-returns-3
+returns_3 : tie.Need-returns-3
 unfolding said
-returns-3 c =
+returns_3 c =
     let d = c.before.before in
     rw (
       le-leb _ _ d.before.if1.false,
@@ -23,9 +23,9 @@ returns-3 c =
       lt-leb _ _ c.if4.true,
     )
 
-returns-4 : tie.Need-returns-4
+returns_4 : tie.Need-returns-4
 unfolding said
-returns-4 c =
+returns_4 c =
     let d = c.before.before in
     rw (
       le-leb _ _ d.before.if1.false,
@@ -34,11 +34,11 @@ returns-4 c =
       le-leb _ _ c.if4.false,
     )
 
-returns-5 : tie.Need-returns-5
+returns_5 : tie.Need-returns-5
 unfolding said
-returns-5 c =
+returns_5 c =
     let d = c.before in
     rw (le-leb _ _ d.before.if1.false, le-leb _ _ d.if2.false, ne_eqb _ _ c.if3.false)
 
-pub field-spec : {M : Type 1} → statement M
-field-spec = tie.close (tie.spec returns returns-2 returns-3 returns-4 returns-5)
+pub field_spec : {M : Type 1} → statement M
+field_spec = tie.close (tie.spec returns returns_2 returns_3 returns_4 returns_5)

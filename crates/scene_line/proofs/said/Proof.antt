@@ -7,30 +7,30 @@ use Rattle.scene_line.specs.Line.{said}
 use Rattle.scene_line.proofs.said.Statement.{statement}
 use Rattle.scene_line.proofs.said.Tie as tie
 
-field-requires : tie.Need-field-requires
-field-requires c κs = search rules
+field_requires : tie.Need-field-requires
+field_requires c κs = search rules
 
 returns : tie.Need-returns
 returns c =
     let a = c.before.before.args in
     c.field.ensures ∙ sym (ap (λ letter. said letter a.a a.b) c.before.if1.true)
 
-returns-2 : tie.Need-returns-2
+returns_2 : tie.Need-returns-2
 unfolding said
-returns-2 c = simp (ne_eqb _ _ c.before.if1.false, lt-leb _ _ c.if2.true, and-false)
+returns_2 c = simp (ne_eqb _ _ c.before.if1.false, lt-leb _ _ c.if2.true, and-false)
 
-returns-3 : tie.Need-returns-3
+returns_3 : tie.Need-returns-3
 unfolding said
-returns-3 c =
+returns_3 c =
     let d = c.before in
     simp (ne_eqb _ _ d.before.if1.false, le-leb _ _ d.if2.false, lt-leb _ _ c.if3.true, and-false)
 
-cast-t6 : tie.Need-overflow-cast-t6
-cast-t6 c = search rules
+cast_t6 : tie.Need-overflow-cast-t6
+cast_t6 c = search rules
 
-returns-4 : tie.Need-returns-4
+returns_4 : tie.Need-returns-4
 unfolding said
-returns-4 c =
+returns_4 c =
     let e = c.before in
     let d = e.before in
     rw (
@@ -40,12 +40,12 @@ returns-4 c =
       eq-eqb _ _ c.if4.true,
     )
 
-cast-t8 : tie.Need-overflow-cast-t8
-cast-t8 c = search rules
+cast_t8 : tie.Need-overflow-cast-t8
+cast_t8 c = search rules
 
-returns-5 : tie.Need-returns-5
+returns_5 : tie.Need-returns-5
 unfolding said
-returns-5 c =
+returns_5 c =
     let e = c.before.before in
     let d = e.before in
     rw (
@@ -56,23 +56,23 @@ returns-5 c =
       eq-eqb _ _ c.if5.true,
     )
 
-returns-6 : tie.Need-returns-6
+returns_6 : tie.Need-returns-6
 unfolding said
-returns-6 c =
+returns_6 c =
     let e = c.before.before in
     let d = e.before in
     rw (ne_eqb _ _ d.before.if1.false, ne_eqb _ _ c.before.if4.false, ne_eqb _ _ c.if5.false)
 
-pub said-spec : {M : Type 1} → statement M
-said-spec =
+pub said_spec : {M : Type 1} → statement M
+said_spec =
     tie.close
     (tie.spec
-    field-requires
+    field_requires
     returns
-    returns-2
-    returns-3
-    cast-t6
-    returns-4
-    cast-t8
-    returns-5
-    returns-6)
+    returns_2
+    returns_3
+    cast_t6
+    returns_4
+    cast_t8
+    returns_5
+    returns_6)

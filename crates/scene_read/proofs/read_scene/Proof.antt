@@ -7,70 +7,70 @@ use lib.ListN.{length, take}
 use borrow.Author.Rules.{rules}
 use Rattle.scene.specs.Scene.{scene}
 use Rattle.scene_text.proofs.Lines.{reads_lines}
-use Rattle.scene_text.specs.Reading.{reading, takenAll, finished, reading_of}
+use Rattle.scene_text.specs.Reading.{reading, taken_all, finished, reading_of}
 use Rattle.scene_read.proofs.Pieces.{more}
 use Rattle.scene_read.proofs.read_scene.Statement.{statement}
 use Rattle.scene_read.proofs.read_scene.Tie as tie
 
-abbrev invariant-loop : tie.invariant-loop
-invariant-loop numbers₀ base₀ sup₀ piece₀ line₀ len₀ left₀ numbers base sup piece line len left =
+abbrev invariant_loop : tie.invariant-loop
+invariant_loop numbers₀ base₀ sup₀ piece₀ line₀ len₀ left₀ numbers base sup piece line len left =
     (length piece ≡ 4096)
     × (length line ≡ 36)
     × (length numbers ≡ length numbers₀)
     × (length base ≡ length base₀)
     × (length sup ≡ length sup₀)
-    × ((text : List ℕ) × (takenAll 36 (reading (scene numbers₀ base₀ sup₀) []) text ≡ reading (scene numbers base sup) (take len line)))
+    × ((text : List ℕ) × (taken_all 36 (reading (scene numbers₀ base₀ sup₀) []) text ≡ reading (scene numbers base sup) (take len line)))
 
-abbrev decreases-loop : tie.decreases-loop
-decreases-loop numbers₀ base₀ sup₀ piece₀ line₀ len₀ left₀ numbers base sup piece line len left = left
+abbrev decreases_loop : tie.decreases-loop
+decreases_loop numbers₀ base₀ sup₀ piece₀ line₀ len₀ left₀ numbers base sup piece line len left = left
 
-buffer-requires : tie.Need-buffer-requires invariant-loop decreases-loop
-buffer-requires c κs = search rules
+buffer_requires : tie.Need-buffer-requires invariant_loop decreases_loop
+buffer_requires c κs = search rules
 
-loop-holds : tie.Need-loop-init invariant-loop decreases-loop
-unfolding takenAll
-loop-holds c = (search rules, search rules, refl, refl, refl, ([], refl))
+loop_holds : tie.Need-loop-init invariant_loop decreases_loop
+unfolding taken_all
+loop_holds c = (search rules, search rules, refl, refl, refl, ([], refl))
 
-slice-aggregate-read : tie.Need-slice-aggregate-read invariant-loop decreases-loop
-slice-aggregate-read c = search rules
+slice_aggregate_read : tie.Need-slice-aggregate-read invariant_loop decreases_loop
+slice_aggregate_read c = search rules
 
-read-requires : tie.Need-read-requires invariant-loop decreases-loop
-read-requires c κs = search rules
+read_requires : tie.Need-read-requires invariant_loop decreases_loop
+read_requires c κs = search rules
 
-slice-aggregate-count : tie.Need-slice-aggregate-count invariant-loop decreases-loop
-slice-aggregate-count c = search rules
+slice_aggregate_count : tie.Need-slice-aggregate-count invariant_loop decreases_loop
+slice_aggregate_count c = search rules
 
-count-requires : tie.Need-count-requires invariant-loop decreases-loop
-count-requires c κs = search rules
+count_requires : tie.Need-count-requires invariant_loop decreases_loop
+count_requires c κs = search rules
 
-array-share-prefix-piece : tie.Need-array-share-prefix-piece invariant-loop decreases-loop
-array-share-prefix-piece c = search rules
+array_share_prefix_piece : tie.Need-array-share-prefix-piece invariant_loop decreases_loop
+array_share_prefix_piece c = search rules
 
-slice-aggregate-take : tie.Need-slice-aggregate-take invariant-loop decreases-loop
-slice-aggregate-take c = search rules
+slice_aggregate_take : tie.Need-slice-aggregate-take invariant_loop decreases_loop
+slice_aggregate_take c = search rules
 
-slice-aggregate-take-2 : tie.Need-slice-aggregate-take-2 invariant-loop decreases-loop
-slice-aggregate-take-2 c = search rules
+slice_aggregate_take_2 : tie.Need-slice-aggregate-take-2 invariant_loop decreases_loop
+slice_aggregate_take_2 c = search rules
 
-take-requires : tie.Need-take-requires invariant-loop decreases-loop
-take-requires c κs = search rules
+take_requires : tie.Need-take-requires invariant_loop decreases_loop
+take_requires c κs = search rules
 
-enum-known-kept : tie.Need-enum-known-kept invariant-loop decreases-loop
-enum-known-kept c = search rules
+enum_known_kept : tie.Need-enum-known-kept invariant_loop decreases_loop
+enum_known_kept c = search rules
 
-enum_told : tie.Need-enum-told invariant-loop decreases-loop
+enum_told : tie.Need-enum-told invariant_loop decreases_loop
 enum_told c = search rules
 
-same_length : tie.Need-same-length invariant-loop decreases-loop
+same_length : tie.Need-same-length invariant_loop decreases_loop
 same_length c = search rules
 
-same-length-2 : tie.Need-same-length-2 invariant-loop decreases-loop
-same-length-2 c = search rules
+same_length_2 : tie.Need-same-length-2 invariant_loop decreases_loop
+same_length_2 c = search rules
 
-same-length-3 : tie.Need-same-length-3 invariant-loop decreases-loop
-same-length-3 c = search rules
+same_length_3 : tie.Need-same-length-3 invariant_loop decreases_loop
+same_length_3 c = search rules
 
-returns : tie.Need-returns invariant-loop decreases-loop
+returns : tie.Need-returns invariant_loop decreases_loop
 returns c =
     let lengths = c.before.before.before.before in
     let v = lengths.before.before.before.before.before in
@@ -87,18 +87,18 @@ returns c =
     let piece = take n.count.result r.read.new.1.0 in
     let text = inv.5.0 in
     let left = sym (ap (λ u. reading_of u t.new.1.0 new) c.enum_told.given.1) ∙ t.ensures
-    ∙ ap (λ k. takenAll k old piece) inv.1 in
+    ∙ ap (λ k. taken_all k old piece) inv.1 in
     let all = more 36 first text piece old _ inv.5.1 left in
     (text ++ piece, ap finished (sym all) ∙ reads_lines 36 (omega arith) first (text ++ piece))
 
-sub-left : tie.Need-overflow-sub-left invariant-loop decreases-loop
-sub-left c = search rules
+sub_left : tie.Need-overflow-sub-left invariant_loop decreases_loop
+sub_left c = search rules
 
-loop-less : tie.Need-loop-smaller invariant-loop decreases-loop
-loop-less c = search rules
+loop_less : tie.Need-loop-smaller invariant_loop decreases_loop
+loop_less c = search rules
 
-loop-again : tie.Need-loop-preserved invariant-loop decreases-loop
-loop-again c =
+loop_again : tie.Need-loop-preserved invariant_loop decreases_loop
+loop_again c =
     let lengths = c.before.before.before.before.before in
     let v = lengths.before.before.before.before.before in
     let lent = v.before.before.before in
@@ -114,7 +114,7 @@ loop-again c =
     let piece = take n.count.result r.read.new.1.0 in
     let text = inv.5.0 in
     let left = sym (ap (λ u. reading_of u t.new.1.0 new) c.before.kept.given.1) ∙ t.ensures
-    ∙ ap (λ k. takenAll k old piece) inv.1 in
+    ∙ ap (λ k. taken_all k old piece) inv.1 in
     let all = more 36 first text piece old _ inv.5.1 left in (
       r.read.auto.1.0 ∙ inv.0,
       t.auto.1.0 ∙ inv.1,
@@ -124,23 +124,23 @@ loop-again c =
       (text ++ piece, all),
     )
 
-slice-aggregate-finish : tie.Need-slice-aggregate-finish invariant-loop decreases-loop
-slice-aggregate-finish c = search rules
+slice_aggregate_finish : tie.Need-slice-aggregate-finish invariant_loop decreases_loop
+slice_aggregate_finish c = search rules
 
-finish-requires : tie.Need-finish-requires invariant-loop decreases-loop
-finish-requires c κs = search rules
+finish_requires : tie.Need-finish-requires invariant_loop decreases_loop
+finish_requires c κs = search rules
 
-same-length-4 : tie.Need-same-length-4 invariant-loop decreases-loop
-same-length-4 c = search rules
+same_length_4 : tie.Need-same-length-4 invariant_loop decreases_loop
+same_length_4 c = search rules
 
-same-length-5 : tie.Need-same-length-5 invariant-loop decreases-loop
-same-length-5 c = search rules
+same_length_5 : tie.Need-same-length-5 invariant_loop decreases_loop
+same_length_5 c = search rules
 
-same-length-6 : tie.Need-same-length-6 invariant-loop decreases-loop
-same-length-6 c = search rules
+same_length_6 : tie.Need-same-length-6 invariant_loop decreases_loop
+same_length_6 c = search rules
 
-returns-2 : tie.Need-returns-2 invariant-loop decreases-loop
-returns-2 c =
+returns_2 : tie.Need-returns-2 invariant_loop decreases_loop
+returns_2 c =
     let f = c.before.before.before.before.before.before in
     let h = f.before.before.before.before.before.before in
     let a = h.before.before.before.before.before.args in
@@ -148,34 +148,34 @@ returns-2 c =
     let text = h.loop.invariant.5.0 in
     (text, f.finish.ensures ∙ ap finished (sym h.loop.invariant.5.1) ∙ reads_lines 36 (omega arith) first text)
 
-pub read-scene-spec : {M : Type 1} → statement M
-read-scene-spec =
+pub read_scene_spec : {M : Type 1} → statement M
+read_scene_spec =
     tie.close
     (tie.spec
-    invariant-loop
-    decreases-loop
-    buffer-requires
-    loop-holds
-    slice-aggregate-read
-    read-requires
-    slice-aggregate-count
-    count-requires
-    array-share-prefix-piece
-    slice-aggregate-take
-    slice-aggregate-take-2
-    take-requires
-    enum-known-kept
+    invariant_loop
+    decreases_loop
+    buffer_requires
+    loop_holds
+    slice_aggregate_read
+    read_requires
+    slice_aggregate_count
+    count_requires
+    array_share_prefix_piece
+    slice_aggregate_take
+    slice_aggregate_take_2
+    take_requires
+    enum_known_kept
     enum_told
     same_length
-    same-length-2
-    same-length-3
+    same_length_2
+    same_length_3
     returns
-    sub-left
-    loop-less
-    loop-again
-    slice-aggregate-finish
-    finish-requires
-    same-length-4
-    same-length-5
-    same-length-6
-    returns-2)
+    sub_left
+    loop_less
+    loop_again
+    slice_aggregate_finish
+    finish_requires
+    same_length_4
+    same_length_5
+    same_length_6
+    returns_2)

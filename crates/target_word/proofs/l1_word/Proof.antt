@@ -2,16 +2,16 @@
 use mathlib.Core.List.{map}
 use mathlib.Core.Path.{sym, ap, ◌∙◌}
 use borrow.Author.Rules.{rules}
-use Rattle.arena.specs.Encoded.{stored, areaRun}
-use Rattle.target_word.proofs.Place.{in-1}
+use Rattle.arena.specs.Encoded.{stored, area_run}
+use Rattle.target_word.proofs.Place.{in_1}
 use Rattle.target_word.proofs.l1_word.Statement.{statement}
 use Rattle.target_word.proofs.l1_word.Tie as tie
 
-areas-requires : tie.Need-areas-requires
-areas-requires c κs = search rules
+areas_requires : tie.Need-areas-requires
+areas_requires c κs = search rules
 
-last-named-requires : tie.Need-last-named-requires
-last-named-requires c κs = search rules
+last_named_requires : tie.Need-last-named-requires
+last_named_requires c κs = search rules
 
 returns : tie.Need-returns
 returns c =
@@ -19,8 +19,8 @@ returns c =
     let s = v.before in
     λ base sup.
     c.last-named.ensures
-    ∙ ap (λ areas. stored (map areaRun areas) s.args.j 0) v.areas.ensures
-    ∙ sym (in-1 s.args.l base sup s.args.j s.requires)
+    ∙ ap (λ areas. stored (map area_run areas) s.args.j 0) v.areas.ensures
+    ∙ sym (in_1 s.args.l base sup s.args.j s.requires)
 
-pub l1-word-spec : {M : Type 1} → statement M
-l1-word-spec = tie.close (tie.spec areas-requires last-named-requires returns)
+pub l1_word_spec : {M : Type 1} → statement M
+l1_word_spec = tie.close (tie.spec areas_requires last_named_requires returns)

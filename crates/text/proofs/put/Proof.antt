@@ -10,42 +10,42 @@ use Rattle.text.proofs.Front.{no_room, room}
 use Rattle.text.proofs.put.Statement.{statement}
 use Rattle.text.proofs.put.Tie as tie
 
-abbrev invariant-loop : tie.invariant-loop
-invariant-loop text out₀ at i₀ i-end out i =
+abbrev invariant_loop : tie.invariant-loop
+invariant_loop text out₀ at i₀ i-end out i =
     (at + length text ≤ length out₀) × (i ≤ length text) × (out ≡ paste out₀ at text i) × (length out ≡ length out₀)
 
-abbrev decreases-loop : tie.decreases-loop
-decreases-loop text out₀ at i₀ i-end out i = i-end - i
+abbrev decreases_loop : tie.decreases-loop
+decreases_loop text out₀ at i₀ i-end out i = i-end - i
 
-returns : tie.Need-returns invariant-loop decreases-loop
+returns : tie.Need-returns invariant_loop decreases_loop
 returns c = sym (no_room _ _ _ (omega arith))
 
-sub-if2 : tie.Need-overflow-sub-if2 invariant-loop decreases-loop
-sub-if2 c = search rules
+sub_if2 : tie.Need-overflow-sub-if2 invariant_loop decreases_loop
+sub_if2 c = search rules
 
-returns-2 : tie.Need-returns-2 invariant-loop decreases-loop
-returns-2 c = sym (no_room _ _ _ (omega arith))
+returns_2 : tie.Need-returns-2 invariant_loop decreases_loop
+returns_2 c = sym (no_room _ _ _ (omega arith))
 
-loop-holds : tie.Need-loop-init invariant-loop decreases-loop
-loop-holds c = let a = c.before.before.args in (omega arith, omega arith, paste-zero a.out.now a.at a.text.now, refl)
+loop_holds : tie.Need-loop-init invariant_loop decreases_loop
+loop_holds c = let a = c.before.before.args in (omega arith, omega arith, paste-zero a.out.now a.at a.text.now, refl)
 
-shared-slice-read-out : tie.Need-shared-slice-read-out invariant-loop decreases-loop
-shared-slice-read-out c = search rules
+shared_slice_read_out : tie.Need-shared-slice-read-out invariant_loop decreases_loop
+shared_slice_read_out c = search rules
 
-add-out : tie.Need-overflow-add-out invariant-loop decreases-loop
-add-out c = search rules
+add_out : tie.Need-overflow-add-out invariant_loop decreases_loop
+add_out c = search rules
 
-slice-write-out : tie.Need-slice-write-out invariant-loop decreases-loop
-slice-write-out c = search rules
+slice_write_out : tie.Need-slice-write-out invariant_loop decreases_loop
+slice_write_out c = search rules
 
-add-i : tie.Need-overflow-add-i invariant-loop decreases-loop
-add-i c = search rules
+add_i : tie.Need-overflow-add-i invariant_loop decreases_loop
+add_i c = search rules
 
-loop-less : tie.Need-loop-smaller invariant-loop decreases-loop
-loop-less c = search rules
+loop_less : tie.Need-loop-smaller invariant_loop decreases_loop
+loop_less c = search rules
 
-loop-again : tie.Need-loop-preserved invariant-loop decreases-loop
-loop-again c =
+loop_again : tie.Need-loop-preserved invariant_loop decreases_loop
+loop_again c =
     let h = c.before.before in
     let a = h.before.before.before.args in
     let text = a.text.now in
@@ -56,11 +56,11 @@ loop-again c =
       simp length-set h.loop.invariant.3,
     )
 
-same_length : tie.Need-same-length invariant-loop decreases-loop
+same_length : tie.Need-same-length invariant_loop decreases_loop
 same_length c = search rules
 
-returns-3 : tie.Need-returns-3 invariant-loop decreases-loop
-returns-3 c =
+returns_3 : tie.Need-returns-3 invariant_loop decreases_loop
+returns_3 c =
     let h = c.before in
     let a = h.before.before.before.args in
     let all : h.loop.i ≡ length a.text.now = omega arith in
@@ -72,17 +72,17 @@ pub put_spec : {M : Type 1} → statement M
 put_spec =
     tie.close
     (tie.spec
-    invariant-loop
-    decreases-loop
+    invariant_loop
+    decreases_loop
     returns
-    sub-if2
-    returns-2
-    loop-holds
-    shared-slice-read-out
-    add-out
-    slice-write-out
-    add-i
-    loop-less
-    loop-again
+    sub_if2
+    returns_2
+    loop_holds
+    shared_slice_read_out
+    add_out
+    slice_write_out
+    add_i
+    loop_less
+    loop_again
     same_length
-    returns-3)
+    returns_3)

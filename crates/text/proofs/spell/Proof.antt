@@ -12,12 +12,12 @@ use Rattle.text.specs.Digits.{glyph, digits}
 use Rattle.text.proofs.spell.Statement.{statement}
 use Rattle.text.proofs.spell.Tie as tie
 
-abbrev invariant-loop : tie.invariant-loop
-invariant-loop n out₀ i₀ rest₀ out i rest =
+abbrev invariant_loop : tie.invariant-loop
+invariant_loop n out₀ i₀ rest₀ out i rest =
     (length out ≡ length out₀) × (i ≤ length out₀) × (digits i rest ++ drop i out ≡ digits (length out₀) n)
 
-abbrev decreases-loop : tie.decreases-loop
-decreases-loop n out₀ i₀ rest₀ out i rest = i
+abbrev decreases_loop : tie.decreases-loop
+decreases_loop n out₀ i₀ rest₀ out i rest = i
 
 -- after a store at j, the list from j on begins with what was stored
 stored : (xs : List ℕ) (j g : ℕ) → j < length xs → drop j (set xs j g) ≡ g ∷ drop (suc j) xs
@@ -38,26 +38,26 @@ moved (suc j) rest g out some inside e =
     ∙ ap (λ (x : ℕ). left ++ x ∷ done) e
     ∙ sym (append_snoc left (glyph (rest % 16)) done)
 
-loop-holds : tie.Need-loop-init invariant-loop decreases-loop
-loop-holds c =
+loop_holds : tie.Need-loop-init invariant_loop decreases_loop
+loop_holds c =
     let xs = c.before.args.out.now in
     let all = digits (length xs) c.before.args.n in
     (refl, le_refl (length xs), ap (λ (l : List ℕ). all ++ l) (drop-length xs) ∙ append-nil all)
 
-sub-i : tie.Need-overflow-sub-i invariant-loop decreases-loop
-sub-i c = search rules
+sub_i : tie.Need-overflow-sub-i invariant_loop decreases_loop
+sub_i c = search rules
 
-last-digit-requires : tie.Need-last-digit-requires invariant-loop decreases-loop
-last-digit-requires c κs = search rules
+last_digit_requires : tie.Need-last-digit-requires invariant_loop decreases_loop
+last_digit_requires c κs = search rules
 
-slice-write-out : tie.Need-slice-write-out invariant-loop decreases-loop
-slice-write-out c = search rules
+slice_write_out : tie.Need-slice-write-out invariant_loop decreases_loop
+slice_write_out c = search rules
 
-loop-less : tie.Need-loop-smaller invariant-loop decreases-loop
-loop-less c = search rules
+loop_less : tie.Need-loop-smaller invariant_loop decreases_loop
+loop_less c = search rules
 
-loop-again : tie.Need-loop-preserved invariant-loop decreases-loop
-loop-again c =
+loop_again : tie.Need-loop-preserved invariant_loop decreases_loop
+loop_again c =
     let h = c.before.before.loop in (
       simp length-set h.invariant.0,
       omega arith,
@@ -66,26 +66,26 @@ loop-again c =
           ∙ h.invariant.2,
     )
 
-same_length : tie.Need-same-length invariant-loop decreases-loop
+same_length : tie.Need-same-length invariant_loop decreases_loop
 same_length c = search rules
 
-returns : tie.Need-returns invariant-loop decreases-loop
+returns : tie.Need-returns invariant_loop decreases_loop
 returns c =
     let h = c.before.loop in
     let none : 0 ≡ h.i = omega arith in
     ap (λ (i : ℕ). digits i h.rest ++ drop i h.out) none ∙ h.invariant.2
 
-pub spell-spec : {M : Type 1} → statement M
-spell-spec =
+pub spell_spec : {M : Type 1} → statement M
+spell_spec =
     tie.close
     (tie.spec
-    invariant-loop
-    decreases-loop
-    loop-holds
-    sub-i
-    last-digit-requires
-    slice-write-out
-    loop-less
-    loop-again
+    invariant_loop
+    decreases_loop
+    loop_holds
+    sub_i
+    last_digit_requires
+    slice_write_out
+    loop_less
+    loop_again
     same_length
     returns)

@@ -4,29 +4,29 @@ use mathlib.Core.Path.{refl, sym, ap, ap₂, ◌∙◌}
 use native.Mathlib.Omega.{arith}
 use lib.ListN.{set}
 use borrow.Author.Rules.{rules}
-use Rattle.accepted_facts.proofs.Guarded.{arena-guarded-facts}
-use Rattle.layout.specs.Size.{boardLimit}
+use Rattle.accepted_facts.proofs.Guarded.{arena_guarded_facts}
+use Rattle.layout.specs.Size.{board_limit}
 use Rattle.refusal.proofs.First.{next, stop}
-use Rattle.refusal.specs.Outcome.{outcomeOf}
-use Rattle.update.specs.Step.{stepRows, leftBy}
-use Rattle.update.proofs.Rows.{past-last, not-past}
+use Rattle.refusal.specs.Outcome.{outcome_of}
+use Rattle.update.specs.Step.{step_rows, left_by}
+use Rattle.update.proofs.Rows.{past_last, not_past}
 use Rattle.update.proofs.step.Statement.{statement}
 use Rattle.update.proofs.step.Tie as tie
 
-guard-requires : tie.Need-guard-requires
-guard-requires c κs = search rules
+guard_requires : tie.Need-guard-requires
+guard_requires c κs = search rules
 
 enum_told : tie.Need-enum-told
 enum_told c = search rules
 
-enum-told-2 : tie.Need-enum-told-2
-enum-told-2 c = search rules
+enum_told_2 : tie.Need-enum-told-2
+enum_told_2 c = search rules
 
 same_length : tie.Need-same-length
 same_length c = search rules
 
 returns : tie.Need-returns
-unfolding stepRows flat_map
+unfolding step_rows flat_map
 returns c =
     let g = c.before.before in
     let v = g.guard in
@@ -34,49 +34,49 @@ returns c =
     let refused = c.enum-told2.given in
     record {
       answer = stop _ _ v.result refused.0.0 refl refused.1 v.ensures;
-      words = sym (ap (λ r. leftBy (outcomeOf r) a.l a.base.now a.sup.now a.n a.arena.now) refused.1);
+      words = sym (ap (λ r. left_by (outcome_of r) a.l a.base.now a.sup.now a.n a.arena.now) refused.1);
     }
 
-same-length-2 : tie.Need-same-length-2
-same-length-2 c = search rules
+same_length_2 : tie.Need-same-length-2
+same_length_2 c = search rules
 
-returns-2 : tie.Need-returns-2
-unfolding stepRows flat_map
-returns-2 c =
+returns_2 : tie.Need-returns-2
+unfolding step_rows flat_map
+returns_2 c =
     let t = c.before in
     let g = t.before.before in
     let v = g.guard in
     record {
       answer = sym (next _ _ v.result refl t.enum_told.given.1 v.ensures
-          ∙ past-last g.before.before.before.before.before.args.n c.if1.true);
+          ∙ past_last g.before.before.before.before.before.args.n c.if1.true);
       words = refl;
     }
 
-stored-by-requires : tie.Need-stored-by-requires
-stored-by-requires c κs = search rules
+stored_by_requires : tie.Need-stored-by-requires
+stored_by_requires c κs = search rules
 
-place-of-requires : tie.Need-place-of-requires
-place-of-requires c κs = search rules
+place_of_requires : tie.Need-place-of-requires
+place_of_requires c κs = search rules
 
-mul-arena : tie.Need-overflow-mul-arena
-mul-arena c = search rules
+mul_arena : tie.Need-overflow-mul-arena
+mul_arena c = search rules
 
-slice-write-arena : tie.Need-slice-write-arena
-slice-write-arena c =
+slice_write_arena : tie.Need-slice-write-arena
+slice_write_arena c =
     let t = c.before.before.before in
     let g = t.before.before in
     let v = g.guard in
     let a = g.before.before.before.before.before.args in
-    let let_by = sym v.ensures ∙ ap outcomeOf t.enum_told.given.1 in
-    let facts = arena-guarded-facts boardLimit a.arena.now a.base.now a.sup.now a.l let_by in
+    let let_by = sym v.ensures ∙ ap outcome_of t.enum_told.given.1 in
+    let facts = arena_guarded_facts board_limit a.arena.now a.base.now a.sup.now a.l let_by in
     omega (arith, facts.0, c.place_of.ensures.1)
 
-same-length-3 : tie.Need-same-length-3
-same-length-3 c = search rules
+same_length_3 : tie.Need-same-length-3
+same_length_3 c = search rules
 
-returns-3 : tie.Need-returns-3
-unfolding stepRows flat_map
-returns-3 c =
+returns_3 : tie.Need-returns-3
+unfolding step_rows flat_map
+returns_3 c =
     let t = c.before.before.before in
     let g = t.before.before in
     let v = g.guard in
@@ -85,7 +85,7 @@ returns-3 c =
       answer =
           sym
           (next _ _ v.result refl t.enum_told.given.1 v.ensures
-          ∙ not-past a.n c.before.before.if1.false);
+          ∙ not_past a.n c.before.before.if1.false);
       words = ap₂ (set a.arena.now) c.place_of.ensures.0 c.before.stored-by.ensures;
     }
 
@@ -93,16 +93,16 @@ pub step_spec : {M : Type 1} → statement M
 step_spec =
     tie.close
     (tie.spec
-    guard-requires
+    guard_requires
     enum_told
-    enum-told-2
+    enum_told_2
     same_length
     returns
-    same-length-2
-    returns-2
-    stored-by-requires
-    place-of-requires
-    mul-arena
-    slice-write-arena
-    same-length-3
-    returns-3)
+    same_length_2
+    returns_2
+    stored_by_requires
+    place_of_requires
+    mul_arena
+    slice_write_arena
+    same_length_3
+    returns_3)

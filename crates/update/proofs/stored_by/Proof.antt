@@ -4,21 +4,21 @@ use borrow.Author.Tests.{lt-ltb, le-ltb}
 use Rattle.update.proofs.stored_by.Statement.{statement}
 use Rattle.update.proofs.stored_by.Tie as tie
 
-sub-target-word : tie.Need-overflow-sub-target-word
-sub-target-word c = search rules
+sub_target_word : tie.Need-overflow-sub-target-word
+sub_target_word c = search rules
 
-sub-target-word-2 : tie.Need-overflow-sub-target-word-2
-sub-target-word-2 c = search rules
+sub_target_word_2 : tie.Need-overflow-sub-target-word-2
+sub_target_word_2 c = search rules
 
-target-word-requires : tie.Need-target-word-requires
-target-word-requires c κs = search rules
+target_word_requires : tie.Need-target-word-requires
+target_word_requires c κs = search rules
 
 returns : tie.Need-returns
 returns c = simp (le-ltb _ _ c.before.if1.true) c.target-word.ensures
 
-returns-2 : tie.Need-returns-2
-returns-2 c = simp (lt-ltb _ _ c.if1.false)
+returns_2 : tie.Need-returns-2
+returns_2 c = simp (lt-ltb _ _ c.if1.false)
 
-pub stored-by-spec : {M : Type 1} → statement M
-stored-by-spec =
-    tie.close (tie.spec sub-target-word sub-target-word-2 target-word-requires returns returns-2)
+pub stored_by_spec : {M : Type 1} → statement M
+stored_by_spec =
+    tie.close (tie.spec sub_target_word sub_target_word_2 target_word_requires returns returns_2)

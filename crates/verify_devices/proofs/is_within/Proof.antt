@@ -7,8 +7,8 @@ use Rattle.verify_devices.proofs.is_within.Tie as tie
 returns : tie.Need-returns
 returns c = rw (lt-leb _ _ c.if1.true)
 
-returns-2 : tie.Need-returns-2
-returns-2 c = let e = c.before.before.if1 in rw (le-leb _ _ e.false) (distance _ _ _ e.false)
+returns_2 : tie.Need-returns-2
+returns_2 c = let e = c.before.before.if1 in rw (le-leb _ _ e.false) (distance _ _ _ e.false)
 
-pub is-within-spec : {M : Type 1} → statement M
-is-within-spec = tie.close (tie.spec returns returns-2)
+pub is_within_spec : {M : Type 1} → statement M
+is_within_spec = tie.close (tie.spec returns returns_2)

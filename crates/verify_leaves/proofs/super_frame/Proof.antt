@@ -1,38 +1,38 @@
 -- `super_frame` meets its contract: the word at its slot is compared by what is found with what the entry wants.
 use borrow.Author.Rules.{rules}
-use Rattle.verify_rows.specs.Verifying.{superRow}
+use Rattle.verify_rows.specs.Verifying.{super_row}
 use Rattle.verify_leaves.proofs.super_frame.Statement.{statement}
 use Rattle.verify_leaves.proofs.super_frame.Tie as tie
 
-super-index-requires : tie.Need-super-index-requires
-super-index-requires c κs = search rules
+super_index_requires : tie.Need-super-index-requires
+super_index_requires c κs = search rules
 
-cast-table-word : tie.Need-overflow-cast-table-word
-cast-table-word c = search rules
+cast_table_word : tie.Need-overflow-cast-table-word
+cast_table_word c = search rules
 
-table-word-requires : tie.Need-table-word-requires
-table-word-requires c κs = search rules
+table_word_requires : tie.Need-table-word-requires
+table_word_requires c κs = search rules
 
-entry-at-requires : tie.Need-entry-at-requires
-entry-at-requires c κs = search rules
+entry_at_requires : tie.Need-entry-at-requires
+entry_at_requires c κs = search rules
 
-cast-block-address : tie.Need-overflow-cast-block-address
-cast-block-address c = search rules
+cast_block_address : tie.Need-overflow-cast-block-address
+cast_block_address c = search rules
 
-block-address-requires : tie.Need-block-address-requires
-block-address-requires c κs = search rules
+block_address_requires : tie.Need-block-address-requires
+block_address_requires c κs = search rules
 
-wanted-leaf-requires : tie.Need-wanted-leaf-requires
-wanted-leaf-requires c κs = search rules
+wanted_leaf_requires : tie.Need-wanted-leaf-requires
+wanted_leaf_requires c κs = search rules
 
-read-block-requires : tie.Need-read-block-requires
-read-block-requires c κs = search rules
+read_block_requires : tie.Need-read-block-requires
+read_block_requires c κs = search rules
 
-leaf-requires : tie.Need-leaf-requires
-leaf-requires c κs = search rules
+leaf_requires : tie.Need-leaf-requires
+leaf_requires c κs = search rules
 
 returns : tie.Need-returns
-unfolding superRow
+unfolding super_row
 returns c =
     let found = c.before in
     let want = found.before in
@@ -49,17 +49,17 @@ returns c =
     )
     c.leaf.ensures
 
-pub super-frame-spec : {M : Type 1} → statement M
-super-frame-spec =
+pub super_frame_spec : {M : Type 1} → statement M
+super_frame_spec =
     tie.close
     (tie.spec
-    super-index-requires
-    cast-table-word
-    table-word-requires
-    entry-at-requires
-    cast-block-address
-    block-address-requires
-    wanted-leaf-requires
-    read-block-requires
-    leaf-requires
+    super_index_requires
+    cast_table_word
+    table_word_requires
+    entry_at_requires
+    cast_block_address
+    block_address_requires
+    wanted_leaf_requires
+    read_block_requires
+    leaf_requires
     returns)

@@ -3,53 +3,53 @@ use borrow.Author.Rules.{rules}
 use Rattle.verify_read.proofs.same_leaf.Statement.{statement}
 use Rattle.verify_read.proofs.same_leaf.Tie as tie
 
-enum-known-found : tie.Need-enum-known-found
-enum-known-found c = search rules
+enum_known_found : tie.Need-enum-known-found
+enum_known_found c = search rules
 
-enum-known-want : tie.Need-enum-known-want
-enum-known-want c = search rules
+enum_known_want : tie.Need-enum-known-want
+enum_known_want c = search rules
 
-same-decoded-requires : tie.Need-same-decoded-requires
-same-decoded-requires c κs = search rules
+same_decoded_requires : tie.Need-same-decoded-requires
+same_decoded_requires c κs = search rules
 
 enum_told : tie.Need-enum-told
 enum_told c = search rules
 
-enum-told-2 : tie.Need-enum-told-2
-enum-told-2 c = search rules
+enum_told_2 : tie.Need-enum-told-2
+enum_told_2 c = search rules
 
-enum-told-3 : tie.Need-enum-told-3
-enum-told-3 c = search rules
+enum_told_3 : tie.Need-enum-told-3
+enum_told_3 c = search rules
 
-enum-told-4 : tie.Need-enum-told-4
-enum-told-4 c = search rules
+enum_told_4 : tie.Need-enum-told-4
+enum_told_4 c = search rules
 
 returns : tie.Need-returns
 returns c =
     let w = c.before.before in
     rw (w.before.before.before.found.given.1, w.want.given.1) c.same-decoded.ensures
 
-returns-2 : tie.Need-returns-2
-returns-2 c = search rules
+returns_2 : tie.Need-returns-2
+returns_2 c = search rules
 
-returns-3 : tie.Need-returns-3
-returns-3 c = search rules
+returns_3 : tie.Need-returns-3
+returns_3 c = search rules
 
-returns-4 : tie.Need-returns-4
-returns-4 c = search rules
+returns_4 : tie.Need-returns-4
+returns_4 c = search rules
 
-pub same-leaf-spec : {M : Type 1} → statement M
-same-leaf-spec =
+pub same_leaf_spec : {M : Type 1} → statement M
+same_leaf_spec =
     tie.close
     (tie.spec
-    enum-known-found
-    enum-known-want
-    same-decoded-requires
+    enum_known_found
+    enum_known_want
+    same_decoded_requires
     enum_told
-    enum-told-2
-    enum-told-3
-    enum-told-4
+    enum_told_2
+    enum_told_3
+    enum_told_4
     returns
-    returns-2
-    returns-3
-    returns-4)
+    returns_2
+    returns_3
+    returns_4)

@@ -4,21 +4,21 @@ use borrow.Author.Tests.{not-true, not-false}
 use Rattle.verify_tables.proofs.image_at.Statement.{statement}
 use Rattle.verify_tables.proofs.image_at.Tie as tie
 
-window-requires : tie.Need-window-requires
-window-requires c κs = search rules
+window_requires : tie.Need-window-requires
+window_requires c κs = search rules
 
 returns : tie.Need-returns
 returns c =
     let w = c.before.before in rw (← w.window.ensures, not-true w.window.result.present c.if1.true)
 
-l2-index-requires : tie.Need-l2-index-requires
-l2-index-requires c κs = search rules
+l2_index_requires : tie.Need-l2-index-requires
+l2_index_requires c κs = search rules
 
-returns-2 : tie.Need-returns-2
-returns-2 c =
+returns_2 : tie.Need-returns-2
+returns_2 c =
     let e = c.before in
     let w = e.before.before in
     rw (← w.window.ensures, not-false w.window.result.present e.if1.false, c.l2-index.ensures)
 
-pub image-at-spec : {M : Type 1} → statement M
-image-at-spec = tie.close (tie.spec window-requires returns l2-index-requires returns-2)
+pub image_at_spec : {M : Type 1} → statement M
+image_at_spec = tie.close (tie.spec window_requires returns l2_index_requires returns_2)

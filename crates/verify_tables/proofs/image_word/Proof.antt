@@ -9,20 +9,20 @@ returns : tie.Need-returns
 unfolding first
 returns c = rw (not-true c.before.before.args.present c.if1.true)
 
-l2-index-requires : tie.Need-l2-index-requires
-l2-index-requires c κs = search rules
+l2_index_requires : tie.Need-l2-index-requires
+l2_index_requires c κs = search rules
 
-cast-table-word : tie.Need-overflow-cast-table-word
-cast-table-word c = search rules
+cast_table_word : tie.Need-overflow-cast-table-word
+cast_table_word c = search rules
 
-table-word-requires : tie.Need-table-word-requires
-table-word-requires c κs = search rules
+table_word_requires : tie.Need-table-word-requires
+table_word_requires c κs = search rules
 
-image-block-requires : tie.Need-image-block-requires
-image-block-requires c κs = search rules
+image_block_requires : tie.Need-image-block-requires
+image_block_requires c κs = search rules
 
-returns-2 : tie.Need-returns-2
-returns-2 c =
+returns_2 : tie.Need-returns-2
+returns_2 c =
     let i = c.before.before in
     rw (
       not-false i.before.before.before.args.present i.before.if1.false,
@@ -31,7 +31,7 @@ returns-2 c =
     )
     c.image-block.ensures
 
-pub image-word-spec : {M : Type 1} → statement M
-image-word-spec =
+pub image_word_spec : {M : Type 1} → statement M
+image_word_spec =
     tie.close
-    (tie.spec returns l2-index-requires cast-table-word table-word-requires image-block-requires returns-2)
+    (tie.spec returns l2_index_requires cast_table_word table_word_requires image_block_requires returns_2)

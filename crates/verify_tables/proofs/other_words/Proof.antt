@@ -7,41 +7,41 @@ use borrow.Author.Tests.{eq-eqb, ne_eqb, not-true, not-false}
 use Rattle.layout.specs.Size.{entries}
 use Rattle.refusal.specs.Table.{first}
 use Rattle.verify_rows.proofs.Range.{rest_at, rest_end}
-use Rattle.verify_rows.specs.Verifying.{otherRow, otherRows}
-use Rattle.verify_tables.specs.Sooner.{otherRowsFrom}
+use Rattle.verify_rows.specs.Verifying.{other_row, other_rows}
+use Rattle.verify_tables.specs.Sooner.{other_rows_from}
 use Rattle.verify_tables.proofs.other_words.Statement.{statement}
 use Rattle.verify_tables.proofs.other_words.Tie as tie
 
-abbrev invariant-loop : tie.invariant-loop
-invariant-loop arena l table j₀ j = first (otherRows arena l table) ≡ first (otherRowsFrom arena l table j)
+abbrev invariant_loop : tie.invariant-loop
+invariant_loop arena l table j₀ j = first (other_rows arena l table) ≡ first (other_rows_from arena l table j)
 
-abbrev decreases-loop : tie.decreases-loop
-decreases-loop arena l table j₀ j = entries - j
+abbrev decreases_loop : tie.decreases-loop
+decreases_loop arena l table j₀ j = entries - j
 
-past-zeros-requires : tie.Need-past-zeros-requires invariant-loop decreases-loop
-past-zeros-requires c κs = search rules
+past_zeros_requires : tie.Need-past-zeros-requires invariant_loop decreases_loop
+past_zeros_requires c κs = search rules
 
-loop-holds : tie.Need-loop-init invariant-loop decreases-loop
-loop-holds c = ap first (c.past-zeros.ensures.2 c.before.before.args.l)
+loop_holds : tie.Need-loop-init invariant_loop decreases_loop
+loop_holds c = ap first (c.past-zeros.ensures.2 c.before.before.args.l)
 
-cast-table-word : tie.Need-overflow-cast-table-word invariant-loop decreases-loop
-cast-table-word c = search rules
+cast_table_word : tie.Need-overflow-cast-table-word invariant_loop decreases_loop
+cast_table_word c = search rules
 
-table-word-requires : tie.Need-table-word-requires invariant-loop decreases-loop
-table-word-requires c κs = search rules
+table_word_requires : tie.Need-table-word-requires invariant_loop decreases_loop
+table_word_requires c κs = search rules
 
-live-at-requires : tie.Need-live-at-requires invariant-loop decreases-loop
-live-at-requires c κs = search rules
+live_at_requires : tie.Need-live-at-requires invariant_loop decreases_loop
+live_at_requires c κs = search rules
 
-returns : tie.Need-returns invariant-loop decreases-loop
-unfolding otherRow first
+returns : tie.Need-returns invariant_loop decreases_loop
+unfolding other_row first
 returns c =
     let v = c.before in
     let t = v.before in
     let w = t.before in
     let h = w.before.before in
     let a = h.before.before.before.args in
-    let here = rest_at (otherRow a.arena.now a.l a.table) entries h.loop.j w.before.loop-test.true in
+    let here = rest_at (other_row a.arena.now a.l a.table) entries h.loop.j w.before.loop-test.true in
     rw (
       h.loop.invariant,
       here,
@@ -51,23 +51,23 @@ returns c =
       not-true v.Live-at.result c.if2.true,
     )
 
-add-past-zeros : tie.Need-overflow-add-past-zeros invariant-loop decreases-loop
-add-past-zeros c = search rules
+add_past_zeros : tie.Need-overflow-add-past-zeros invariant_loop decreases_loop
+add_past_zeros c = search rules
 
-past-zeros-requires-2 : tie.Need-past-zeros-requires-2 invariant-loop decreases-loop
-past-zeros-requires-2 c κs = search rules
+past_zeros_requires_2 : tie.Need-past-zeros-requires-2 invariant_loop decreases_loop
+past_zeros_requires_2 c κs = search rules
 
-loop-less : tie.Need-loop-smaller invariant-loop decreases-loop
-loop-less c = search rules
+loop_less : tie.Need-loop-smaller invariant_loop decreases_loop
+loop_less c = search rules
 
-loop-again : tie.Need-loop-preserved invariant-loop decreases-loop
-unfolding otherRow
-loop-again c =
+loop_again : tie.Need-loop-preserved invariant_loop decreases_loop
+unfolding other_row
+loop_again c =
     let v = c.before in
     let w = v.before in
     let h = w.before.before in
     let a = h.before.before.before.args in
-    let row = otherRow a.arena.now a.l a.table in
+    let row = other_row a.arena.now a.l a.table in
     let here = rest_at row entries h.loop.j w.before.loop-test.true in
     let skipped = c.past-zeros2.ensures.2 a.l in
     ⊎_elim
@@ -84,23 +84,23 @@ loop-again c =
     (λ t. rw (← skipped, h.loop.invariant, here, ← w.table-word.ensures, eq-eqb _ _ t.left))
     v.if1.branch
 
-returns-2 : tie.Need-returns-2 invariant-loop decreases-loop
-returns-2 c = let h = c.before in rest_end _ entries h.loop.j c.loop-test.false ∙ sym h.loop.invariant
+returns_2 : tie.Need-returns-2 invariant_loop decreases_loop
+returns_2 c = let h = c.before in rest_end _ entries h.loop.j c.loop-test.false ∙ sym h.loop.invariant
 
-pub other-words-spec : {M : Type 1} → statement M
-other-words-spec =
+pub other_words_spec : {M : Type 1} → statement M
+other_words_spec =
     tie.close
     (tie.spec
-    invariant-loop
-    decreases-loop
-    past-zeros-requires
-    loop-holds
-    cast-table-word
-    table-word-requires
-    live-at-requires
+    invariant_loop
+    decreases_loop
+    past_zeros_requires
+    loop_holds
+    cast_table_word
+    table_word_requires
+    live_at_requires
     returns
-    add-past-zeros
-    past-zeros-requires-2
-    loop-less
-    loop-again
-    returns-2)
+    add_past_zeros
+    past_zeros_requires_2
+    loop_less
+    loop_again
+    returns_2)

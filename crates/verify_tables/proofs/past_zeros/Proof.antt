@@ -12,92 +12,92 @@ use Rattle.verify_tables.proofs.Zeros.{zeros}
 use Rattle.verify_tables.proofs.past_zeros.Statement.{statement}
 use Rattle.verify_tables.proofs.past_zeros.Tie as tie
 
-abbrev invariant-loop : tie.invariant-loop
-invariant-loop arena table j from k₀ k = OnlySooner arena table j k
+abbrev invariant_loop : tie.invariant-loop
+invariant_loop arena table j from k₀ k = OnlySooner arena table j k
 
-abbrev decreases-loop : tie.decreases-loop
-decreases-loop arena table j from k₀ k = entries - k
+abbrev decreases_loop : tie.decreases-loop
+decreases_loop arena table j from k₀ k = entries - k
 
-first-word-requires : tie.Need-first-word-requires invariant-loop decreases-loop
-first-word-requires c κs = search rules
+first_word_requires : tie.Need-first-word-requires invariant_loop decreases_loop
+first_word_requires c κs = search rules
 
-add-if1 : tie.Need-overflow-add-if1 invariant-loop decreases-loop
-add-if1 c = search rules
+add_if1 : tie.Need-overflow-add-if1 invariant_loop decreases_loop
+add_if1 c = search rules
 
-returns : tie.Need-returns invariant-loop decreases-loop
+returns : tie.Need-returns invariant_loop decreases_loop
 returns c = (omega arith, omega arith, λ l. refl)
 
-loop-holds : tie.Need-loop-init invariant-loop decreases-loop
-loop-holds c = (omega arith, omega arith, λ l. refl)
+loop_holds : tie.Need-loop-init invariant_loop decreases_loop
+loop_holds c = (omega arith, omega arith, λ l. refl)
 
-add-loop : tie.Need-overflow-add-loop invariant-loop decreases-loop
-add-loop c = search rules
+add_loop : tie.Need-overflow-add-loop invariant_loop decreases_loop
+add_loop c = search rules
 
-add-if2 : tie.Need-overflow-add-if2 invariant-loop decreases-loop
-add-if2 c = search rules
+add_if2 : tie.Need-overflow-add-if2 invariant_loop decreases_loop
+add_if2 c = search rules
 
-mul-if2 : tie.Need-overflow-mul-if2 invariant-loop decreases-loop
-mul-if2 c = search rules
+mul_if2 : tie.Need-overflow-mul-if2 invariant_loop decreases_loop
+mul_if2 c = search rules
 
-shared-slice-read-if2 : tie.Need-shared-slice-read-if2 invariant-loop decreases-loop
-shared-slice-read-if2 c = search rules
+shared_slice_read_if2 : tie.Need-shared-slice-read-if2 invariant_loop decreases_loop
+shared_slice_read_if2 c = search rules
 
-returns-2 : tie.Need-returns-2 invariant-loop decreases-loop
-returns-2 c = c.before.before.before.loop.invariant
+returns_2 : tie.Need-returns-2 invariant_loop decreases_loop
+returns_2 c = c.before.before.before.loop.invariant
 
-add-if3 : tie.Need-overflow-add-if3 invariant-loop decreases-loop
-add-if3 c = search rules
+add_if3 : tie.Need-overflow-add-if3 invariant_loop decreases_loop
+add_if3 c = search rules
 
-add-if3-2 : tie.Need-overflow-add-if3-2 invariant-loop decreases-loop
-add-if3-2 c = search rules
+add_if3_2 : tie.Need-overflow-add-if3-2 invariant_loop decreases_loop
+add_if3_2 c = search rules
 
-mul-if3 : tie.Need-overflow-mul-if3 invariant-loop decreases-loop
-mul-if3 c = search rules
+mul_if3 : tie.Need-overflow-mul-if3 invariant_loop decreases_loop
+mul_if3 c = search rules
 
-shared-slice-read-if3 : tie.Need-shared-slice-read-if3 invariant-loop decreases-loop
-shared-slice-read-if3 c = search rules
+shared_slice_read_if3 : tie.Need-shared-slice-read-if3 invariant_loop decreases_loop
+shared_slice_read_if3 c = search rules
 
-returns-3 : tie.Need-returns-3 invariant-loop decreases-loop
-returns-3 c = c.before.before.before.before.before.loop.invariant
+returns_3 : tie.Need-returns-3 invariant_loop decreases_loop
+returns_3 c = c.before.before.before.before.before.loop.invariant
 
-add-if4 : tie.Need-overflow-add-if4 invariant-loop decreases-loop
-add-if4 c = search rules
+add_if4 : tie.Need-overflow-add-if4 invariant_loop decreases_loop
+add_if4 c = search rules
 
-add-if4-2 : tie.Need-overflow-add-if4-2 invariant-loop decreases-loop
-add-if4-2 c = search rules
+add_if4_2 : tie.Need-overflow-add-if4-2 invariant_loop decreases_loop
+add_if4_2 c = search rules
 
-mul-if4 : tie.Need-overflow-mul-if4 invariant-loop decreases-loop
-mul-if4 c = search rules
+mul_if4 : tie.Need-overflow-mul-if4 invariant_loop decreases_loop
+mul_if4 c = search rules
 
-shared-slice-read-if4 : tie.Need-shared-slice-read-if4 invariant-loop decreases-loop
-shared-slice-read-if4 c = search rules
+shared_slice_read_if4 : tie.Need-shared-slice-read-if4 invariant_loop decreases_loop
+shared_slice_read_if4 c = search rules
 
-returns-4 : tie.Need-returns-4 invariant-loop decreases-loop
-returns-4 c = let zeros = c.before.before.before.before in zeros.before.before.before.loop.invariant
+returns_4 : tie.Need-returns-4 invariant_loop decreases_loop
+returns_4 c = let zeros = c.before.before.before.before in zeros.before.before.before.loop.invariant
 
-add-if5 : tie.Need-overflow-add-if5 invariant-loop decreases-loop
-add-if5 c = search rules
+add_if5 : tie.Need-overflow-add-if5 invariant_loop decreases_loop
+add_if5 c = search rules
 
-add-if5-2 : tie.Need-overflow-add-if5-2 invariant-loop decreases-loop
-add-if5-2 c = search rules
+add_if5_2 : tie.Need-overflow-add-if5-2 invariant_loop decreases_loop
+add_if5_2 c = search rules
 
-mul-if5 : tie.Need-overflow-mul-if5 invariant-loop decreases-loop
-mul-if5 c = search rules
+mul_if5 : tie.Need-overflow-mul-if5 invariant_loop decreases_loop
+mul_if5 c = search rules
 
-shared-slice-read-if5 : tie.Need-shared-slice-read-if5 invariant-loop decreases-loop
-shared-slice-read-if5 c = search rules
+shared_slice_read_if5 : tie.Need-shared-slice-read-if5 invariant_loop decreases_loop
+shared_slice_read_if5 c = search rules
 
-returns-5 : tie.Need-returns-5 invariant-loop decreases-loop
-returns-5 c = let zeros = c.before.before.before.before.before.before in zeros.before.before.before.loop.invariant
+returns_5 : tie.Need-returns-5 invariant_loop decreases_loop
+returns_5 c = let zeros = c.before.before.before.before.before.before in zeros.before.before.before.loop.invariant
 
-add-k : tie.Need-overflow-add-k invariant-loop decreases-loop
-add-k c = search rules
+add_k : tie.Need-overflow-add-k invariant_loop decreases_loop
+add_k c = search rules
 
-loop-less : tie.Need-loop-smaller invariant-loop decreases-loop
-loop-less c = search rules
+loop_less : tie.Need-loop-smaller invariant_loop decreases_loop
+loop_less c = search rules
 
-loop-again : tie.Need-loop-preserved invariant-loop decreases-loop
-loop-again c =
+loop_again : tie.Need-loop-preserved invariant_loop decreases_loop
+loop_again c =
     let third = c.before.before in
     let second = third.before.before in
     let first = second.before.before in
@@ -116,40 +116,40 @@ loop-again c =
     let none : (i : ℕ) → i < k + 4 → P i = λ i lt. four i (omega (arith, lt)) in
     (omega arith, omega arith, λ l. h.loop.invariant.2 l ∙ zeros a.arena.now l a.table k (k + 4) (omega arith) (omega arith) none)
 
-returns-6 : tie.Need-returns-6 invariant-loop decreases-loop
-returns-6 c = c.before.loop.invariant
+returns_6 : tie.Need-returns-6 invariant_loop decreases_loop
+returns_6 c = c.before.loop.invariant
 
-pub past-zeros-spec : {M : Type 1} → statement M
-past-zeros-spec =
+pub past_zeros_spec : {M : Type 1} → statement M
+past_zeros_spec =
     tie.close
     (tie.spec
-    invariant-loop
-    decreases-loop
-    first-word-requires
-    add-if1
+    invariant_loop
+    decreases_loop
+    first_word_requires
+    add_if1
     returns
-    loop-holds
-    add-loop
-    add-if2
-    mul-if2
-    shared-slice-read-if2
-    returns-2
-    add-if3
-    add-if3-2
-    mul-if3
-    shared-slice-read-if3
-    returns-3
-    add-if4
-    add-if4-2
-    mul-if4
-    shared-slice-read-if4
-    returns-4
-    add-if5
-    add-if5-2
-    mul-if5
-    shared-slice-read-if5
-    returns-5
-    add-k
-    loop-less
-    loop-again
-    returns-6)
+    loop_holds
+    add_loop
+    add_if2
+    mul_if2
+    shared_slice_read_if2
+    returns_2
+    add_if3
+    add_if3_2
+    mul_if3
+    shared_slice_read_if3
+    returns_3
+    add_if4
+    add_if4_2
+    mul_if4
+    shared_slice_read_if4
+    returns_4
+    add_if5
+    add_if5_2
+    mul_if5
+    shared_slice_read_if5
+    returns_5
+    add_k
+    loop_less
+    loop_again
+    returns_6)

@@ -5,11 +5,11 @@ use Rattle.verify_rows.specs.Word.{block_row}
 use Rattle.verify_word.proofs.device_block.Statement.{statement}
 use Rattle.verify_word.proofs.device_block.Tie as tie
 
-decode-device-block-requires : tie.Need-decode-device-block-requires
-decode-device-block-requires c κs = search rules
+decode_device_block_requires : tie.Need-decode-device-block-requires
+decode_device_block_requires c κs = search rules
 
-same-block-requires : tie.Need-same-block-requires
-same-block-requires c κs = search rules
+same_block_requires : tie.Need-same-block-requires
+same_block_requires c κs = search rules
 
 returns : tie.Need-returns
 unfolding block_row first
@@ -19,31 +19,31 @@ returns c =
 enum_told : tie.Need-enum-told
 enum_told c = search rules
 
-enum-told-2 : tie.Need-enum-told-2
-enum-told-2 c = search rules
+enum_told_2 : tie.Need-enum-told-2
+enum_told_2 c = search rules
 
-returns-2 : tie.Need-returns-2
+returns_2 : tie.Need-returns-2
 unfolding block_row first
-returns-2 c =
+returns_2 c =
     let e = c.before.before in
     let v = e.before in
     rw (← v.before.decode-device-block.ensures, ← v.same_block.ensures, e.if1.false, c.enum_told.given.1)
 
-returns-3 : tie.Need-returns-3
+returns_3 : tie.Need-returns-3
 unfolding block_row first
-returns-3 c =
+returns_3 c =
     let e = c.before.before in
     let v = e.before in
     rw (← v.before.decode-device-block.ensures, ← v.same_block.ensures, e.if1.false, c.enum-told2.given.1)
 
-pub device-block-spec : {M : Type 1} → statement M
-device-block-spec =
+pub device_block_spec : {M : Type 1} → statement M
+device_block_spec =
     tie.close
     (tie.spec
-    decode-device-block-requires
-    same-block-requires
+    decode_device_block_requires
+    same_block_requires
     returns
     enum_told
-    enum-told-2
-    returns-2
-    returns-3)
+    enum_told_2
+    returns_2
+    returns_3)

@@ -7,14 +7,14 @@ use Rattle.verify_word.proofs.same_device.Tie as tie
 returns : tie.Need-returns
 returns c = simp (ne_eqb _ _ c.if1.true)
 
-cast-result : tie.Need-overflow-cast-result
-cast-result c = search rules
+cast_result : tie.Need-overflow-cast-result
+cast_result c = search rules
 
-cast-result-2 : tie.Need-overflow-cast-result-2
-cast-result-2 c = search rules
+cast_result_2 : tie.Need-overflow-cast-result-2
+cast_result_2 c = search rules
 
-returns-2 : tie.Need-returns-2
-returns-2 c = rw (eq-eqb _ _ c.before.before.if1.false)
+returns_2 : tie.Need-returns-2
+returns_2 c = rw (eq-eqb _ _ c.before.before.if1.false)
 
-pub same-device-spec : {M : Type 1} → statement M
-same-device-spec = tie.close (tie.spec returns cast-result cast-result-2 returns-2)
+pub same_device_spec : {M : Type 1} → statement M
+same_device_spec = tie.close (tie.spec returns cast_result cast_result_2 returns_2)

@@ -6,20 +6,20 @@ use Rattle.walk.specs.Walk.{reading, walk_of}
 use Rattle.walk.proofs.walk.Statement.{statement}
 use Rattle.walk.proofs.walk.Tie as tie
 
-arena-len-requires : tie.Need-arena-len-requires
-arena-len-requires c κs = search rules
+arena_len_requires : tie.Need-arena-len-requires
+arena_len_requires c κs = search rules
 
 enum_told : tie.Need-enum-told
 enum_told c = search rules
 
-descend-requires : tie.Need-descend-requires
-descend-requires c κs = search rules
+descend_requires : tie.Need-descend-requires
+descend_requires c κs = search rules
 
-reach-of-requires : tie.Need-reach-of-requires
-reach-of-requires c κs = search rules
+reach_of_requires : tie.Need-reach-of-requires
+reach_of_requires c κs = search rules
 
-enum-known-verdict : tie.Need-enum-known-verdict
-enum-known-verdict c = search rules
+enum_known_verdict : tie.Need-enum-known-verdict
+enum_known_verdict c = search rules
 
 returns : tie.Need-returns
 unfolding walk_of
@@ -30,19 +30,19 @@ returns c =
     tells _ v.arena-len.result v.arena-len.ensures _ _ e.enum_told.given.1
     (c.reach_of.ensures ∙ ap (reading v.before.before.args.ipa) d.descend.ensures)
 
-returns-2 : tie.Need-returns-2
-returns-2 c =
+returns_2 : tie.Need-returns-2
+returns_2 c =
     let e = c.before in
     let v = e.before.before.arena-len in denies _ v.result v.ensures _ _ e.verdict.given.1
 
-pub walk-spec : {M : Type 1} → statement M
-walk-spec =
+pub walk_spec : {M : Type 1} → statement M
+walk_spec =
     tie.close
     (tie.spec
-    arena-len-requires
+    arena_len_requires
     enum_told
-    descend-requires
-    reach-of-requires
-    enum-known-verdict
+    descend_requires
+    reach_of_requires
+    enum_known_verdict
     returns
-    returns-2)
+    returns_2)

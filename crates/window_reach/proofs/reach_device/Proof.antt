@@ -7,44 +7,44 @@ use native.Mathlib.Omega.{arith}
 use lib.ListN.{length, get_or, drop}
 use borrow.Author.Rules.{rules}
 use Rattle.accepted_facts.specs.Accepted.{Within}
-use Rattle.layout.specs.Size.{boardLimit}
-use Rattle.refusal.proofs.All.{all-at}
-use Rattle.window_reach.specs.Granted.{deviceRegion, grantedBy}
+use Rattle.layout.specs.Size.{board_limit}
+use Rattle.refusal.proofs.All.{all_at}
+use Rattle.window_reach.specs.Granted.{device_region, granted_by}
 use Rattle.window_reach.proofs.Contains.{inside}
-use Rattle.window_reach.proofs.Grants.{noWindow, onward, device-at, device-end, grant-here, grant-past}
+use Rattle.window_reach.proofs.Grants.{no_window, onward, device_at_lem, device_end, grant_here, grant_past}
 use Rattle.window_reach.proofs.reach_device.Statement.{statement}
 use Rattle.window_reach.proofs.reach_device.Tie as tie
 
-abbrev invariant-loop : tie.invariant-loop
-invariant-loop ipa ds i₀ i = grantedBy (map deviceRegion ds) ipa ≡ grantedBy (map deviceRegion (drop i ds)) ipa
+abbrev invariant_loop : tie.invariant-loop
+invariant_loop ipa ds i₀ i = granted_by (map device_region ds) ipa ≡ granted_by (map device_region (drop i ds)) ipa
 
-abbrev decreases-loop : tie.decreases-loop
-decreases-loop ipa ds i₀ i = length ds - i
+abbrev decreases_loop : tie.decreases-loop
+decreases_loop ipa ds i₀ i = length ds - i
 
-loop-holds : tie.Need-loop-init invariant-loop decreases-loop
-loop-holds c = refl
+loop_holds : tie.Need-loop-init invariant_loop decreases_loop
+loop_holds c = refl
 
-mul-w : tie.Need-overflow-mul-w invariant-loop decreases-loop
-mul-w c = search rules
+mul_w : tie.Need-overflow-mul-w invariant_loop decreases_loop
+mul_w c = search rules
 
-array-copy-out-w : tie.Need-array-copy-out-w invariant-loop decreases-loop
-array-copy-out-w c = search rules
+array_copy_out_w : tie.Need-array-copy-out-w invariant_loop decreases_loop
+array_copy_out_w c = search rules
 
-inside-requires : tie.Need-inside-requires invariant-loop decreases-loop
-inside-requires c κs = search rules
+inside_requires : tie.Need-inside-requires invariant_loop decreases_loop
+inside_requires c κs = search rules
 
-grant-requires : tie.Need-grant-requires invariant-loop decreases-loop
-grant-requires c κs =
+grant_requires : tie.Need-grant-requires invariant_loop decreases_loop
+grant_requires c κs =
     let v = c.before in
     let h = v.before.before.before in
     let s = h.before in
     let there : h.loop.i < length s.args.t1 = omega (arith, s.well-formed.0.1.0.1) in
-    let w = get_or s.args.t1 h.loop.i noWindow in
+    let w = get_or s.args.t1 h.loop.i no_window in
     let contained = sym v.inside.ensures ∙ c.if1.true in
-    let within = all-at (λ d. d.present ≡ true → Within boardLimit d) s.args.t1 h.loop.i noWindow there s.requires in
+    let within = all_at (λ d. d.present ≡ true → Within board_limit d) s.args.t1 h.loop.i no_window there s.requires in
     (contained, (within (inside w s.args.ipa contained).there).output)
 
-returns : tie.Need-returns invariant-loop decreases-loop
+returns : tie.Need-returns invariant_loop decreases_loop
 returns c =
     let t = c.before in
     let v = t.before in
@@ -52,50 +52,50 @@ returns c =
     let s = h.before in
     let x = s.args.ipa in
     let there : h.loop.i < length s.args.t1 = omega (arith, s.well-formed.0.1.0.1) in
-    let r = deviceRegion (get_or s.args.t1 h.loop.i noWindow) in
+    let r = device_region (get_or s.args.t1 h.loop.i no_window) in
     c.grant.ensures
     ∙ sym (h.loop.invariant
-    ∙ device-at s.args.t1 h.loop.i x there
-    ∙ grant-here r (onward s.args.t1 h.loop.i x) x (sym v.inside.ensures ∙ t.if1.true))
+    ∙ device_at_lem s.args.t1 h.loop.i x there
+    ∙ grant_here r (onward s.args.t1 h.loop.i x) x (sym v.inside.ensures ∙ t.if1.true))
 
-add-i : tie.Need-overflow-add-i invariant-loop decreases-loop
-add-i c = search rules
+add_i : tie.Need-overflow-add-i invariant_loop decreases_loop
+add_i c = search rules
 
-loop-less : tie.Need-loop-smaller invariant-loop decreases-loop
-loop-less c = omega (arith, c.before.before.before.before.before.well-formed.0.1.0.1)
+loop_less : tie.Need-loop-smaller invariant_loop decreases_loop
+loop_less c = omega (arith, c.before.before.before.before.before.well-formed.0.1.0.1)
 
-loop-again : tie.Need-loop-preserved invariant-loop decreases-loop
-loop-again c =
+loop_again : tie.Need-loop-preserved invariant_loop decreases_loop
+loop_again c =
     let v = c.before in
     let h = v.before.before.before in
     let s = h.before in
     let x = s.args.ipa in
     let there : h.loop.i < length s.args.t1 = omega (arith, s.well-formed.0.1.0.1) in
-    let r = deviceRegion (get_or s.args.t1 h.loop.i noWindow) in
+    let r = device_region (get_or s.args.t1 h.loop.i no_window) in
     h.loop.invariant
-    ∙ device-at s.args.t1 h.loop.i x there
-    ∙ grant-past r (onward s.args.t1 h.loop.i x) x (sym v.inside.ensures ∙ c.if1.false)
+    ∙ device_at_lem s.args.t1 h.loop.i x there
+    ∙ grant_past r (onward s.args.t1 h.loop.i x) x (sym v.inside.ensures ∙ c.if1.false)
 
-returns-2 : tie.Need-returns-2 invariant-loop decreases-loop
-returns-2 c =
+returns_2 : tie.Need-returns-2 invariant_loop decreases_loop
+returns_2 c =
     let h = c.before in
     let s = h.before in
     let outside : length s.args.t1 ≤ h.loop.i = omega (arith, s.well-formed.0.1.0.1) in
-    sym (h.loop.invariant ∙ device-end s.args.t1 h.loop.i s.args.ipa outside)
+    sym (h.loop.invariant ∙ device_end s.args.t1 h.loop.i s.args.ipa outside)
 
-pub reach-device-spec : {M : Type 1} → statement M
-reach-device-spec =
+pub reach_device_spec : {M : Type 1} → statement M
+reach_device_spec =
     tie.close
     (tie.spec
-    invariant-loop
-    decreases-loop
-    loop-holds
-    mul-w
-    array-copy-out-w
-    inside-requires
-    grant-requires
+    invariant_loop
+    decreases_loop
+    loop_holds
+    mul_w
+    array_copy_out_w
+    inside_requires
+    grant_requires
     returns
-    add-i
-    loop-less
-    loop-again
-    returns-2)
+    add_i
+    loop_less
+    loop_again
+    returns_2)

@@ -8,29 +8,29 @@ returns : tie.Need-returns
 unfolding covers
 returns c = simp (ne_eqb _ _ c.if1.true)
 
-returns-2 : tie.Need-returns-2
+returns_2 : tie.Need-returns-2
 unfolding covers
-returns-2 c = simp (eq-eqb _ _ c.before.before.if1.false, ne_eqb _ _ c.if2.true)
+returns_2 c = simp (eq-eqb _ _ c.before.before.if1.false, ne_eqb _ _ c.if2.true)
 
-returns-3 : tie.Need-returns-3
+returns_3 : tie.Need-returns-3
 unfolding covers
-returns-3 c =
+returns_3 c =
     let d = c.before.before in
     simp (eq-eqb _ _ d.before.before.if1.false, eq-eqb _ _ d.if2.false, ne_eqb _ _ c.if3.true)
 
-returns-4 : tie.Need-returns-4
+returns_4 : tie.Need-returns-4
 unfolding covers
-returns-4 c =
+returns_4 c =
     let e = c.before in
     let d = e.before.before in
     simp (eq-eqb _ _ d.before.before.if1.false, eq-eqb _ _ d.if2.false, eq-eqb _ _ e.if3.false, c.if4.true)
 
-returns-5 : tie.Need-returns-5
+returns_5 : tie.Need-returns-5
 unfolding covers
-returns-5 c =
+returns_5 c =
     let e = c.before in
     let d = e.before.before in
     simp (eq-eqb _ _ d.before.before.if1.false, eq-eqb _ _ d.if2.false, eq-eqb _ _ e.if3.false, c.if4.false)
 
-pub covers-spec : {M : Type 1} → statement M
-covers-spec = tie.close (tie.spec returns returns-2 returns-3 returns-4 returns-5)
+pub covers_spec : {M : Type 1} → statement M
+covers_spec = tie.close (tie.spec returns returns_2 returns_3 returns_4 returns_5)

@@ -3,29 +3,29 @@ use borrow.Author.Rules.{rules}
 use Rattle.layout.proofs.Layout.checks.Statement.{statement}
 use Rattle.layout.proofs.Layout.checks.Tie as tie
 
-window-requires : tie.Need-window-requires
-window-requires c κs = search rules
+window_requires : tie.Need-window-requires
+window_requires c κs = search rules
 
-device-window-requires : tie.Need-device-window-requires
-device-window-requires c κs = search rules
+device_window_requires : tie.Need-device-window-requires
+device_window_requires c κs = search rules
 
-of-requires : tie.Need-of-requires
-of-requires c κs = search rules
+of_requires : tie.Need-of-requires
+of_requires c κs = search rules
 
-of-requires-2 : tie.Need-of-requires-2
-of-requires-2 c κs = search rules
+of_requires_2 : tie.Need-of-requires-2
+of_requires_2 c κs = search rules
 
-of-requires-3 : tie.Need-of-requires-3
-of-requires-3 c κs = search rules
+of_requires_3 : tie.Need-of-requires-3
+of_requires_3 c κs = search rules
 
-of-requires-4 : tie.Need-of-requires-4
-of-requires-4 c κs = search rules
+of_requires_4 : tie.Need-of-requires-4
+of_requires_4 c κs = search rules
 
-of-requires-5 : tie.Need-of-requires-5
-of-requires-5 c κs = search rules
+of_requires_5 : tie.Need-of-requires-5
+of_requires_5 c κs = search rules
 
-of-requires-6 : tie.Need-of-requires-6
-of-requires-6 c κs = search rules
+of_requires_6 : tie.Need-of-requires-6
+of_requires_6 c κs = search rules
 
 returns : tie.Need-returns
 returns c =
@@ -42,16 +42,16 @@ returns c =
       i.window.ensures,
     )
 
-pub checks-spec : {M : Type 1} → statement M
-checks-spec =
+pub checks_spec : {M : Type 1} → statement M
+checks_spec =
     tie.close
     (tie.spec
-    window-requires
-    device-window-requires
-    of-requires
-    of-requires-2
-    of-requires-3
-    of-requires-4
-    of-requires-5
-    of-requires-6
+    window_requires
+    device_window_requires
+    of_requires
+    of_requires_2
+    of_requires_3
+    of_requires_4
+    of_requires_5
+    of_requires_6
     returns)

@@ -1,27 +1,27 @@
 -- `MemoryType::shareability_bits` meets its contract: each arm is given the type, at which the field computes.
 use mathlib.Core.Path.{sym, ap}
 use borrow.Author.Rules.{rules}
-use Rattle.memtype.specs.Memory.{shareabilityBits}
+use Rattle.memtype.specs.Memory.{shareability_bits}
 use Rattle.memtype.proofs.MemoryType.shareability_bits.Statement.{statement}
 use Rattle.memtype.proofs.MemoryType.shareability_bits.Tie as tie
 
 enum_told : tie.Need-enum-told
 enum_told c = search rules
 
-enum-told-2 : tie.Need-enum-told-2
-enum-told-2 c = search rules
+enum_told_2 : tie.Need-enum-told-2
+enum_told_2 c = search rules
 
-enum-told-3 : tie.Need-enum-told-3
-enum-told-3 c = search rules
+enum_told_3 : tie.Need-enum-told-3
+enum_told_3 c = search rules
 
 returns : tie.Need-returns
-returns c = sym (ap shareabilityBits c.enum_told.given.1)
+returns c = sym (ap shareability_bits c.enum_told.given.1)
 
-returns-2 : tie.Need-returns-2
-returns-2 c = sym (ap shareabilityBits c.enum-told2.given.1)
+returns_2 : tie.Need-returns-2
+returns_2 c = sym (ap shareability_bits c.enum-told2.given.1)
 
-returns-3 : tie.Need-returns-3
-returns-3 c = sym (ap shareabilityBits c.enum-told3.given.1)
+returns_3 : tie.Need-returns-3
+returns_3 c = sym (ap shareability_bits c.enum-told3.given.1)
 
-pub shareability-bits-spec : {M : Type 1} → statement M
-shareability-bits-spec = tie.close (tie.spec enum_told enum-told-2 enum-told-3 returns returns-2 returns-3)
+pub shareability_bits_spec : {M : Type 1} → statement M
+shareability_bits_spec = tie.close (tie.spec enum_told enum_told_2 enum_told_3 returns returns_2 returns_3)

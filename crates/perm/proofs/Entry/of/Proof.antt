@@ -1,22 +1,22 @@
 -- `Entry::of` meets its contract: each arm knows the code, and the last that it is no permission's.
 use mathlib.Core.Path.{sym, ap}
 use borrow.Author.Tests.{ne_eqb}
-use Rattle.perm.specs.Perm.{entryNamed}
+use Rattle.perm.specs.Perm.{entry_named}
 use Rattle.perm.proofs.Entry.of.Statement.{statement}
 use Rattle.perm.proofs.Entry.of.Tie as tie
 
 returns : tie.Need-returns
-returns c = sym (ap entryNamed c.match.keys1)
+returns c = sym (ap entry_named c.match.keys1)
 
-returns-2 : tie.Need-returns-2
-returns-2 c = sym (ap entryNamed c.match.keys2)
+returns_2 : tie.Need-returns-2
+returns_2 c = sym (ap entry_named c.match.keys2)
 
-returns-3 : tie.Need-returns-3
-returns-3 c = sym (ap entryNamed c.match.keys3)
+returns_3 : tie.Need-returns-3
+returns_3 c = sym (ap entry_named c.match.keys3)
 
-returns-4 : tie.Need-returns-4
-returns-4 c =
+returns_4 : tie.Need-returns-4
+returns_4 c =
     let r = c.match.rest in simp (ne_eqb _ _ r.0.0.1, ne_eqb _ _ r.0.1, ne_eqb _ _ r.1)
 
 pub of_spec : {M : Type 1} → statement M
-of_spec = tie.close (tie.spec returns returns-2 returns-3 returns-4)
+of_spec = tie.close (tie.spec returns returns_2 returns_3 returns_4)

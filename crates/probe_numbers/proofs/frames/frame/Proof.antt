@@ -1,53 +1,53 @@
 -- `frame` meets its contract: the rows, and the front of them.
 use borrow.Author.Rules.{rules}
-use Rattle.probe_numbers.specs.Frames.{frameAnswer}
+use Rattle.probe_numbers.specs.Frames.{frame_answer}
 use Rattle.probe_numbers.proofs.frames.frame.Statement.{statement}
 use Rattle.probe_numbers.proofs.frames.frame.Tie as tie
 
-element-copy-out-row : tie.Need-element-copy-out-row
-element-copy-out-row c = search rules
+element_copy_out_row : tie.Need-element-copy-out-row
+element_copy_out_row c = search rules
 
-element-copy-out-row-2 : tie.Need-element-copy-out-row-2
-element-copy-out-row-2 c = search rules
+element_copy_out_row_2 : tie.Need-element-copy-out-row-2
+element_copy_out_row_2 c = search rules
 
-row-requires : tie.Need-row-requires
-row-requires c κs = search rules
+row_requires : tie.Need-row-requires
+row_requires c κs = search rules
 
-element-copy-out-row-3 : tie.Need-element-copy-out-row-3
-element-copy-out-row-3 c = search rules
+element_copy_out_row_3 : tie.Need-element-copy-out-row-3
+element_copy_out_row_3 c = search rules
 
-element-copy-out-row-4 : tie.Need-element-copy-out-row-4
-element-copy-out-row-4 c = search rules
+element_copy_out_row_4 : tie.Need-element-copy-out-row-4
+element_copy_out_row_4 c = search rules
 
-row-requires-2 : tie.Need-row-requires-2
-row-requires-2 c κs = search rules
+row_requires_2 : tie.Need-row-requires-2
+row_requires_2 c κs = search rules
 
-element-copy-out-row-5 : tie.Need-element-copy-out-row-5
-element-copy-out-row-5 c = search rules
+element_copy_out_row_5 : tie.Need-element-copy-out-row-5
+element_copy_out_row_5 c = search rules
 
-element-copy-out-row-6 : tie.Need-element-copy-out-row-6
-element-copy-out-row-6 c = search rules
+element_copy_out_row_6 : tie.Need-element-copy-out-row-6
+element_copy_out_row_6 c = search rules
 
-row-requires-3 : tie.Need-row-requires-3
-row-requires-3 c κs = search rules
+row_requires_3 : tie.Need-row-requires-3
+row_requires_3 c κs = search rules
 
-slice-aggregate-front : tie.Need-slice-aggregate-front
-slice-aggregate-front c = search rules
+slice_aggregate_front : tie.Need-slice-aggregate-front
+slice_aggregate_front c = search rules
 
-element-copy-out-front : tie.Need-element-copy-out-front
-element-copy-out-front c = search rules
+element_copy_out_front : tie.Need-element-copy-out-front
+element_copy_out_front c = search rules
 
-element-copy-out-front-2 : tie.Need-element-copy-out-front-2
-element-copy-out-front-2 c = search rules
+element_copy_out_front_2 : tie.Need-element-copy-out-front-2
+element_copy_out_front_2 c = search rules
 
-cast-front : tie.Need-overflow-cast-front
-cast-front c = search rules
+cast_front : tie.Need-overflow-cast-front
+cast_front c = search rules
 
-front-requires : tie.Need-front-requires
-front-requires c κs = search rules
+front_requires : tie.Need-front-requires
+front_requires c κs = search rules
 
 returns : tie.Need-returns
-unfolding frameAnswer
+unfolding frame_answer
 returns c =
     let r = c.before.before.before.before in
     simp (
@@ -57,22 +57,22 @@ returns c =
       r.before.before.before.before.before.before.row.ensures,
     )
 
-pub frame-spec : {M : Type 1} → statement M
-frame-spec =
+pub frame_spec : {M : Type 1} → statement M
+frame_spec =
     tie.close
     (tie.spec
-    element-copy-out-row
-    element-copy-out-row-2
-    row-requires
-    element-copy-out-row-3
-    element-copy-out-row-4
-    row-requires-2
-    element-copy-out-row-5
-    element-copy-out-row-6
-    row-requires-3
-    slice-aggregate-front
-    element-copy-out-front
-    element-copy-out-front-2
-    cast-front
-    front-requires
+    element_copy_out_row
+    element_copy_out_row_2
+    row_requires
+    element_copy_out_row_3
+    element_copy_out_row_4
+    row_requires_2
+    element_copy_out_row_5
+    element_copy_out_row_6
+    row_requires_3
+    slice_aggregate_front
+    element_copy_out_front
+    element_copy_out_front_2
+    cast_front
+    front_requires
     returns)

@@ -3,23 +3,23 @@ use borrow.Author.Rules.{rules}
 use Rattle.probe_numbers.proofs.frames.frame_numbers.Statement.{statement}
 use Rattle.probe_numbers.proofs.frames.frame_numbers.Tie as tie
 
-owner-of-requires : tie.Need-owner-of-requires
-owner-of-requires c κs = search rules
+owner_of_requires : tie.Need-owner-of-requires
+owner_of_requires c κs = search rules
 
-owner-number-requires : tie.Need-owner-number-requires
-owner-number-requires c κs = search rules
+owner_number_requires : tie.Need-owner-number-requires
+owner_number_requires c κs = search rules
 
-kind-of-requires : tie.Need-kind-of-requires
-kind-of-requires c κs = search rules
+kind_of_requires : tie.Need-kind-of-requires
+kind_of_requires c κs = search rules
 
-cast-kind : tie.Need-overflow-cast-kind
-cast-kind c = search rules
+cast_kind : tie.Need-overflow-cast-kind
+cast_kind c = search rules
 
-span-of-table-requires : tie.Need-span-of-table-requires
-span-of-table-requires c κs = search rules
+span_of_table_requires : tie.Need-span-of-table-requires
+span_of_table_requires c κs = search rules
 
-span-number-requires : tie.Need-span-number-requires
-span-number-requires c κs = search rules
+span_number_requires : tie.Need-span-number-requires
+span_number_requires c κs = search rules
 
 returns : tie.Need-returns
 returns c =
@@ -31,14 +31,14 @@ returns c =
       c.before.span-of-table.ensures,
     )
 
-pub frame-numbers-spec : {M : Type 1} → statement M
-frame-numbers-spec =
+pub frame_numbers_spec : {M : Type 1} → statement M
+frame_numbers_spec =
     tie.close
     (tie.spec
-    owner-of-requires
-    owner-number-requires
-    kind-of-requires
-    cast-kind
-    span-of-table-requires
-    span-number-requires
+    owner_of_requires
+    owner_number_requires
+    kind_of_requires
+    cast_kind
+    span_of_table_requires
+    span_number_requires
     returns)

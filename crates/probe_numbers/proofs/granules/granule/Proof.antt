@@ -1,54 +1,54 @@
 -- `granule` meets its contract: by the granule that the code names.
 use mathlib.Core.Path.{◌∙◌, sym, ap}
 use borrow.Author.Rules.{rules}
-use Rattle.probe_numbers.specs.Granules.{granuleNumbers}
+use Rattle.probe_numbers.specs.Granules.{granule_numbers}
 use Rattle.probe_numbers.proofs.granules.granule.Statement.{statement}
 use Rattle.probe_numbers.proofs.granules.granule.Tie as tie
 
-from-tg0-requires : tie.Need-from-tg0-requires
-from-tg0-requires c κs = search rules
+from_tg0_requires : tie.Need-from-tg0-requires
+from_tg0_requires c κs = search rules
 
-enum-known-g : tie.Need-enum-known-g
-enum-known-g c = search rules
+enum_known_g : tie.Need-enum-known-g
+enum_known_g c = search rules
 
 enum_told : tie.Need-enum-told
 enum_told c = search rules
 
 returns : tie.Need-returns
-returns c = sym (ap granuleNumbers (sym c.before.before.from-tg0.ensures ∙ c.enum_told.given.1))
+returns c = sym (ap granule_numbers (sym c.before.before.from-tg0.ensures ∙ c.enum_told.given.1))
 
-page-bits-requires : tie.Need-page-bits-requires
-page-bits-requires c κs = search rules
+page_bits_requires : tie.Need-page-bits-requires
+page_bits_requires c κs = search rules
 
-cast-t5 : tie.Need-overflow-cast-t5
-cast-t5 c = search rules
+cast_t5 : tie.Need-overflow-cast-t5
+cast_t5 c = search rules
 
-level-bits-requires : tie.Need-level-bits-requires
-level-bits-requires c κs = search rules
+level_bits_requires : tie.Need-level-bits-requires
+level_bits_requires c κs = search rules
 
-cast-t7 : tie.Need-overflow-cast-t7
-cast-t7 c = search rules
+cast_t7 : tie.Need-overflow-cast-t7
+cast_t7 c = search rules
 
-tg0-requires : tie.Need-tg0-requires
-tg0-requires c κs = search rules
+tg0_requires : tie.Need-tg0-requires
+tg0_requires c κs = search rules
 
-returns-2 : tie.Need-returns-2
-returns-2 c =
+returns_2 : tie.Need-returns-2
+returns_2 c =
     let k = c.before.before.before in
     let e = sym k.before.before.before.from-tg0.ensures ∙ k.before.g.given.1 in
-    simp (c.before.before.page-bits.ensures, c.before.level-bits.ensures, c.tg0.ensures) (sym (ap granuleNumbers e))
+    simp (c.before.before.page-bits.ensures, c.before.level-bits.ensures, c.tg0.ensures) (sym (ap granule_numbers e))
 
-pub granule-spec : {M : Type 1} → statement M
-granule-spec =
+pub granule_spec : {M : Type 1} → statement M
+granule_spec =
     tie.close
     (tie.spec
-    from-tg0-requires
-    enum-known-g
+    from_tg0_requires
+    enum_known_g
     enum_told
     returns
-    page-bits-requires
-    cast-t5
-    level-bits-requires
-    cast-t7
-    tg0-requires
-    returns-2)
+    page_bits_requires
+    cast_t5
+    level_bits_requires
+    cast_t7
+    tg0_requires
+    returns_2)

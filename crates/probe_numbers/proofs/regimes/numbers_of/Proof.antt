@@ -1,44 +1,44 @@
 -- `numbers_of` meets its contract: each number is its function's.
 use borrow.Author.Rules.{rules}
-use Rattle.probe_numbers.specs.Regimes.{numbersOf}
+use Rattle.probe_numbers.specs.Regimes.{numbers_of}
 use Rattle.probe_numbers.proofs.regimes.numbers_of.Statement.{statement}
 use Rattle.probe_numbers.proofs.regimes.numbers_of.Tie as tie
 
-t0sz-requires : tie.Need-t0sz-requires
-t0sz-requires c κs = search rules
+t0sz_requires : tie.Need-t0sz-requires
+t0sz_requires c κs = search rules
 
-table-align-requires : tie.Need-table-align-requires
-table-align-requires c κs = search rules
+table_align_requires : tie.Need-table-align-requires
+table_align_requires c κs = search rules
 
-vtcr-el2-requires : tie.Need-vtcr-el2-requires
-vtcr-el2-requires c κs = search rules
+vtcr_el2_requires : tie.Need-vtcr-el2-requires
+vtcr_el2_requires c κs = search rules
 
-valid-requires : tie.Need-valid-requires
-valid-requires c κs = search rules
+valid_requires : tie.Need-valid-requires
+valid_requires c κs = search rules
 
-cast-t7 : tie.Need-overflow-cast-t7
-cast-t7 c = search rules
+cast_t7 : tie.Need-overflow-cast-t7
+cast_t7 c = search rules
 
-is-determined-requires : tie.Need-is-determined-requires
-is-determined-requires c κs = search rules
+is_determined_requires : tie.Need-is-determined-requires
+is_determined_requires c κs = search rules
 
-determined-requires : tie.Need-determined-requires
-determined-requires c κs = search rules
+determined_requires : tie.Need-determined-requires
+determined_requires c κs = search rules
 
-is-determined-requires-2 : tie.Need-is-determined-requires-2
-is-determined-requires-2 c κs = search rules
+is_determined_requires_2 : tie.Need-is-determined-requires-2
+is_determined_requires_2 c κs = search rules
 
-determined-requires-2 : tie.Need-determined-requires-2
-determined-requires-2 c κs = search rules
+determined_requires_2 : tie.Need-determined-requires-2
+determined_requires_2 c κs = search rules
 
-is-encoded-requires : tie.Need-is-encoded-requires
-is-encoded-requires c κs = search rules
+is_encoded_requires : tie.Need-is-encoded-requires
+is_encoded_requires c κs = search rules
 
-encoded-requires : tie.Need-encoded-requires
-encoded-requires c κs = search rules
+encoded_requires : tie.Need-encoded-requires
+encoded_requires c κs = search rules
 
 returns : tie.Need-returns
-unfolding numbersOf
+unfolding numbers_of
 returns c =
     let v = c.before.before.before.before.before.before in
     simp (
@@ -54,19 +54,19 @@ returns c =
       v.before.vtcr-el2.ensures,
     )
 
-pub numbers-of-spec : {M : Type 1} → statement M
-numbers-of-spec =
+pub numbers_of_spec : {M : Type 1} → statement M
+numbers_of_spec =
     tie.close
     (tie.spec
-    t0sz-requires
-    table-align-requires
-    vtcr-el2-requires
-    valid-requires
-    cast-t7
-    is-determined-requires
-    determined-requires
-    is-determined-requires-2
-    determined-requires-2
-    is-encoded-requires
-    encoded-requires
+    t0sz_requires
+    table_align_requires
+    vtcr_el2_requires
+    valid_requires
+    cast_t7
+    is_determined_requires
+    determined_requires
+    is_determined_requires_2
+    determined_requires_2
+    is_encoded_requires
+    encoded_requires
     returns)

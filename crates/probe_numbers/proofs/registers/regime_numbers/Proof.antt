@@ -3,20 +3,20 @@ use borrow.Author.Rules.{rules}
 use Rattle.probe_numbers.proofs.registers.regime_numbers.Statement.{statement}
 use Rattle.probe_numbers.proofs.registers.regime_numbers.Tie as tie
 
-width-number-requires : tie.Need-width-number-requires
-width-number-requires c κs = search rules
+width_number_requires : tie.Need-width-number-requires
+width_number_requires c κs = search rules
 
-tg0-requires : tie.Need-tg0-requires
-tg0-requires c κs = search rules
+tg0_requires : tie.Need-tg0-requires
+tg0_requires c κs = search rules
 
-cast-t8 : tie.Need-overflow-cast-t8
-cast-t8 c = search rules
+cast_t8 : tie.Need-overflow-cast-t8
+cast_t8 c = search rules
 
-sl0-requires : tie.Need-sl0-requires
-sl0-requires c κs = search rules
+sl0_requires : tie.Need-sl0-requires
+sl0_requires c κs = search rules
 
-ps-requires : tie.Need-ps-requires
-ps-requires c κs = search rules
+ps_requires : tie.Need-ps-requires
+ps_requires c κs = search rules
 
 returns : tie.Need-returns
 returns c =
@@ -27,7 +27,7 @@ returns c =
       c.ps.ensures,
     )
 
-pub regime-numbers-spec : {M : Type 1} → statement M
-regime-numbers-spec =
+pub regime_numbers_spec : {M : Type 1} → statement M
+regime_numbers_spec =
     tie.close
-    (tie.spec width-number-requires tg0-requires cast-t8 sl0-requires ps-requires returns)
+    (tie.spec width_number_requires tg0_requires cast_t8 sl0_requires ps_requires returns)

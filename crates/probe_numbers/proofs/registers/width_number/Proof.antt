@@ -10,14 +10,14 @@ use Rattle.sizes.specs.declared.VmidBits.{VmidBits}
 enum_told : tie.Need-enum-told
 enum_told c = search rules
 
-enum-told-2 : tie.Need-enum-told-2
-enum-told-2 c = search rules
+enum_told_2 : tie.Need-enum-told-2
+enum_told_2 c = search rules
 
 returns : tie.Need-returns
 returns c = sym (ap (λ (b : VmidBits). vs b + 1) c.enum_told.given.1)
 
-returns-2 : tie.Need-returns-2
-returns-2 c = sym (ap (λ (b : VmidBits). vs b + 1) c.enum-told2.given.1)
+returns_2 : tie.Need-returns-2
+returns_2 c = sym (ap (λ (b : VmidBits). vs b + 1) c.enum-told2.given.1)
 
-pub width-number-spec : {M : Type 1} → statement M
-width-number-spec = tie.close (tie.spec enum_told enum-told-2 returns returns-2)
+pub width_number_spec : {M : Type 1} → statement M
+width_number_spec = tie.close (tie.spec enum_told enum_told_2 returns returns_2)

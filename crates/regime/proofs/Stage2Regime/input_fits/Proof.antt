@@ -2,27 +2,27 @@
 use mathlib.Core.Path.{sym}
 use borrow.Author.Rules.{rules}
 use borrow.Author.Tests.{le-leb, lt-leb, lt-ltb, le-ltb}
-use Rattle.regime.specs.Regime.{inputFits}
+use Rattle.regime.specs.Regime.{input_fits}
 use Rattle.regime.proofs.Stage2Regime.input_fits.Statement.{statement}
 use Rattle.regime.proofs.Stage2Regime.input_fits.Tie as tie
 
 returns : tie.Need-returns
-unfolding inputFits
+unfolding input_fits
 returns c = simp (lt-leb _ _ c.if1.true)
 
-page-bits-requires : tie.Need-page-bits-requires
-page-bits-requires c κs = search rules
+page_bits_requires : tie.Need-page-bits-requires
+page_bits_requires c κs = search rules
 
-returns-2 : tie.Need-returns-2
-unfolding inputFits
-returns-2 c = simp (le-leb _ _ c.before.before.if1.false, sym c.before.page-bits.ensures, le-ltb _ _ c.if2.true)
+returns_2 : tie.Need-returns-2
+unfolding input_fits
+returns_2 c = simp (le-leb _ _ c.before.before.if1.false, sym c.before.page-bits.ensures, le-ltb _ _ c.if2.true)
 
-span-requires : tie.Need-span-requires
-span-requires c κs = search rules
+span_requires : tie.Need-span-requires
+span_requires c κs = search rules
 
-returns-3 : tie.Need-returns-3
-unfolding inputFits
-returns-3 c =
+returns_3 : tie.Need-returns-3
+unfolding input_fits
+returns_3 c =
     simp (
       le-leb _ _ c.before.before.before.before.if1.false,
       sym c.before.before.before.page-bits.ensures,
@@ -31,12 +31,12 @@ returns-3 c =
       lt-leb _ _ c.if3.true,
     )
 
-below-requires : tie.Need-below-requires
-below-requires c κs = search rules
+below_requires : tie.Need-below-requires
+below_requires c κs = search rules
 
-returns-4 : tie.Need-returns-4
-unfolding inputFits
-returns-4 c =
+returns_4 : tie.Need-returns-4
+unfolding input_fits
+returns_4 c =
     simp (
       le-leb _ _ c.before.before.before.before.before.if1.false,
       sym c.before.before.before.before.page-bits.ensures,
@@ -46,14 +46,14 @@ returns-4 c =
       c.below.ensures,
     )
 
-pub input-fits-spec : {M : Type 1} → statement M
-input-fits-spec =
+pub input_fits_spec : {M : Type 1} → statement M
+input_fits_spec =
     tie.close
     (tie.spec
     returns
-    page-bits-requires
-    returns-2
-    span-requires
-    returns-3
-    below-requires
-    returns-4)
+    page_bits_requires
+    returns_2
+    span_requires
+    returns_3
+    below_requires
+    returns_4)

@@ -9,8 +9,8 @@ use Rattle.regime.proofs.Bounds.{size_fits}
 use Rattle.regime.proofs.Stage2Regime.table_align.Statement.{statement}
 use Rattle.regime.proofs.Stage2Regime.table_align.Tie as tie
 
-below-requires : tie.Need-below-requires
-below-requires c κs = search rules
+below_requires : tie.Need-below-requires
+below_requires c κs = search rules
 
 returns : tie.Need-returns
 returns c =
@@ -18,21 +18,21 @@ returns c =
     let h : a.self.ipa_bits < below a.self = omega arith in
     simp (lt-leb _ _ h)
 
-returns-2 : tie.Need-returns-2
-returns-2 c =
+returns_2 : tie.Need-returns-2
+returns_2 c =
     let r = c.before.before.before.args.self in
     let l : below r ≤ r.ipa_bits = omega arith in
     let n : 61 ≤ r.ipa_bits - below r = omega arith in
     simp (le-leb _ _ l, le-ltb _ _ n)
 
-cast-size : tie.Need-overflow-cast-size
-cast-size c = search rules
+cast_size : tie.Need-overflow-cast-size
+cast_size c = search rules
 
-shl-size : tie.Need-overflow-shl-size
-shl-size c = search rules
+shl_size : tie.Need-overflow-shl-size
+shl_size c = search rules
 
-returns-3 : tie.Need-returns-3
-returns-3 c =
+returns_3 : tie.Need-returns-3
+returns_3 c =
     let b = c.before.before.before in
     let r = b.before.args.self in
     let l : below r ≤ r.ipa_bits = omega arith in
@@ -40,8 +40,8 @@ returns-3 c =
     let small = rw (b.below.ensures, size_fits _ n) at c.if3.true in
     simp (le-leb _ _ l, lt-ltb _ _ n, max-eq_left (le_of_lt small))
 
-returns-4 : tie.Need-returns-4
-returns-4 c =
+returns_4 : tie.Need-returns-4
+returns_4 c =
     let b = c.before.before.before in
     let r = b.before.args.self in
     let l : below r ≤ r.ipa_bits = omega arith in
@@ -49,6 +49,6 @@ returns-4 c =
     let large = rw (b.below.ensures, size_fits _ n) at c.if3.false in
     simp (le-leb _ _ l, lt-ltb _ _ n, b.below.ensures, size_fits _ n, max-eq_right large)
 
-pub table-align-spec : {M : Type 1} → statement M
-table-align-spec =
-    tie.close (tie.spec below-requires returns returns-2 cast-size shl-size returns-3 returns-4)
+pub table_align_spec : {M : Type 1} → statement M
+table_align_spec =
+    tie.close (tie.spec below_requires returns returns_2 cast_size shl_size returns_3 returns_4)

@@ -33,10 +33,10 @@ use denote.Triple.Entry.{on_entry}
 use denote.Triple.Spec.{Meets, triple_of}
 use denote.Triple.Table.{entered}
 use denote.Triple.Walked.{says, Stays, walk_of, Walks, ends_at, walked, walk_Meets}
-use Rattle.layout.specs.Size.{tableCount}
-use Rattle.lending.proofs.Dropped.{dropped, dropped-go}
+use Rattle.layout.specs.Size.{table_count}
+use Rattle.lending.proofs.Dropped.{dropped, dropped_go}
 use Rattle.walker.specs.declared.Walker.{Walker}
-use Rattle.walker.proofs.Held.{Words, Addresses, words_val, addressesVal, D, L, held, Fields, is_held, shuts}
+use Rattle.walker.proofs.Held.{Words, Addresses, words_val, addresses_val, D, L, held, Fields, is_held, shuts}
 use Rattle.walker.proofs.Walker.TheLaws as T'
 use Rattle.walker.specs.contracts.Walker.new.Key.{name as #walker·new}
 use Rattle.walker.specs.contracts.Walker.new as new
@@ -47,7 +47,7 @@ abbrev stayed : Stays (new.ended).signature.params (new.ended).kept
 stayed = dropped (new.ended).signature.params (new.ended).kept
 
 module _ {M : Type 1} {𝓤 : Ura M} (𝓛 : Logic 𝓤) (mem : Memory → SProp 𝓤) (run : Routine → Fun 𝓤) (κ κ' : Lft)
-    (q q' : Share) (s t : Bor (List ℕ)) (p : Is (Words κ) s (words_val s ∷ [])) (p' : Is (Addresses κ') t (addressesVal t ∷ [])) where
+    (q q' : Share) (s t : Bor (List ℕ)) (p : Is (Words κ) s (words_val s ∷ [])) (p' : Is (Addresses κ') t (addresses_val t ∷ [])) where
   open 𝓛 use {H}
 
   abbrev κs : Lfts 2
@@ -60,7 +60,7 @@ module _ {M : Type 1} {𝓤 : Ura M} (𝓛 : Logic 𝓤) (mem : Memory → SProp
   made = held s t
 
   abbrev at : List Val × (List Val × Unit {0})
-  at = (words_val s ∷ [], (addressesVal t ∷ [], tt))
+  at = (words_val s ∷ [], (addresses_val t ∷ [], tt))
 
   abbrev Post : Val → SProp 𝓤
   Post = (walk_of 𝓛 new.ended stayed (new.clauses 𝓛 mem run)).post ((κs, qs, tt, (s, (t, tt)), at), tt)
@@ -73,13 +73,13 @@ module _ {M : Type 1} {𝓤 : Ura M} (𝓛 : Logic 𝓤) (mem : Memory → SProp
       frame ! $ nothing ! $ nothing ! $ nothing ! $ fjoin3 ! $ frame ! $ by ! (shuts 𝓛 κs s t)
 
   module _ (C : Calls 𝓤 H) (Λ : Loops 𝓤 H) where
-    steps : ent 𝓤 (on_entry 𝓛 new.signature κs qs (s, (t, tt)) at) (WpFn 𝓤 H C Λ code.function (words_val s ∷ addressesVal t ∷ []) Post)
+    steps : ent 𝓤 (on_entry 𝓛 new.signature κs qs (s, (t, tt)) at) (WpFn 𝓤 H C Λ code.function (words_val s ∷ addresses_val t ∷ []) Post)
     steps =
         qed 𝓛 (raw (on_entry 𝓛 new.signature κs qs (s, (t, tt)) at) ∷ []) ∵
-        enter ! C Λ code.function (words_val s ∷ addressesVal t ∷ []) _ $
+        enter ! C Λ code.function (words_val s ∷ addresses_val t ∷ []) _ $
         alloc1 ! (λ l₀. alloc1 ! (λ l₁. alloc1 ! (λ l₂.
         alloc0 ! $ params1 ! $ pass1 ! (init ! 2 refl ((shr_slice_Lawful 𝓛 (named 0) κ u64).typed s _ p).0) $
-        pass1 ! (init ! 0 refl ((shr_Lawful 𝓛 (named 1) κ' (Array u64 tableCount)).typed t _ p').0) $ pass0 ! $
+        pass1 ! (init ! 0 refl ((shr_Lawful 𝓛 (named 1) κ' (Array u64 table_count)).typed t _ p').0) $ pass0 ! $
         -- [_2; …; _1; …; room for _0; …; what is had at entry]
         assigns ! (agg ! (and_then ! (load ! (from ! (stop !)) (look ! 2 refl))
         (and_then ! (load ! (from ! (stop !)) (look ! 0 refl)) (no_more !)))) (from ! (stop !))
@@ -93,7 +93,7 @@ module _ {M : Type 1} {𝓤 : Ura M} (𝓛 : Logic 𝓤) (mem : Memory → SProp
   new_walks : (C : Calls 𝓤 H) (Λ : Loops 𝓤 H) → Walks 𝓛 new.ended stayed (WpFn 𝓤 H C Λ code.function) (new.clauses 𝓛 mem run)
   new_walks C Λ = walked 𝓛 new.ended stayed (new.clauses 𝓛 mem run) (WpFn 𝓤 H C Λ code.function)
       (λ κs. (shr_slice_vals, (shr_vals, tt)))
-      (λ κs. (shr_slice_Tells (named 0) κs.0 u64, (shr_Tells (named 1) κs.1.0 (Array u64 tableCount), tt)))
+      (λ κs. (shr_slice_Tells (named 0) κs.0 u64, (shr_Tells (named 1) κs.1.0 (Array u64 table_count), tt)))
       (λ κs qs bounds a g are. via 𝓤 _ (fst∗ 𝓤 _ (emp 𝓤))
       (steps 𝓛 mem run κs.0 κs.1.0 qs.0 qs.1.0 a.0 a.1.0 are.0 are.1.0 C Λ))
 
@@ -101,7 +101,7 @@ new_meets : {M : Type 1} {𝓤 : Ura M} (𝓛 : Logic 𝓤) →
     (mem : Memory → SProp 𝓤) (run : Routine → Fun 𝓤) (𝓣 : Tables 𝓤 𝓛.H)
     → Meets 𝓛 new.signature (WpFn 𝓤 𝓛.H 𝓣.C 𝓣.Λ code.function) (new.spec 𝓛 mem run)
 new_meets {𝓤 = 𝓤} 𝓛 mem run 𝓣 = walk_Meets 𝓛 new.ended stayed
-    (dropped-go 𝓛 (new.ended).signature.params (new.ended).kept ((λ κs x f. refl), ((λ κs x f. refl), tt)))
+    (dropped_go 𝓛 (new.ended).signature.params (new.ended).kept ((λ κs x f. refl), ((λ κs x f. refl), tt)))
     (new.clauses 𝓛 mem run) (WpFn 𝓤 𝓛.H 𝓣.C 𝓣.Λ code.function) (WpFn-mono 𝓤 𝓛.H 𝓛.laws 𝓣 code.function)
     (new_walks 𝓛 mem run 𝓣.C 𝓣.Λ)
 

@@ -38,8 +38,8 @@ use denote.Triple.Spec.{Meets, triple_of}
 use denote.Triple.Table.{entered, cited}
 use denote.Triple.Walked.{says, Stays, walk_of, Walks, ends_at, walked, walk_Meets}
 use denote.Triple.Clauses.{ensured, lasts}
-use Rattle.lending.proofs.Dropped.{dropped, dropped-go}
-use Rattle.reach.specs.Reach.{toldOf}
+use Rattle.lending.proofs.Dropped.{dropped, dropped_go}
+use Rattle.reach.specs.Reach.{told_of}
 use Rattle.reach.specs.declared.Walked.{Walked}
 use Rattle.reach.specs.contracts.Walked as S
 use Rattle.reach.proofs.Walked.TheLaws as S'
@@ -47,9 +47,9 @@ use Rattle.walk.specs.contracts.walk as covered
 use Rattle.walk.proofs.walk.Symbol as covered-def
 use Rattle.walk.proofs.walk.Symbol.{name as #walk·walk}
 use Rattle.walk.proofs.walk.Met as covered-thm
-use Rattle.walk.specs.Walk.{walkedFrom}
+use Rattle.walk.specs.Walk.{walked_from}
 use Rattle.walker.specs.declared.Walker.{Walker}
-use Rattle.walker.proofs.Held.{words_val, addressesVal, B, D, L, Fields, opens}
+use Rattle.walker.proofs.Held.{words_val, addresses_val, B, D, L, Fields, opens}
 use Rattle.walker.proofs.Walker.TheLaws as T'
 use Rattle.walker.specs.contracts.Walker.walk.Key.{name as #walker·walk}
 use Rattle.walker.specs.contracts.Walker.walk as walk
@@ -83,7 +83,7 @@ module _ {M : Type 1} {𝓤 : Ura M} (𝓛 : Logic 𝓤) (mem : Memory → SProp
   -- what the callee is passed
   abbrev to : (Covered 𝓛 mem run).Ghost
   to = (
-    (κs, qs, tt, (d.words, (d.tables, (x, tt))), (words_val d.words ∷ [], (addressesVal d.tables ∷ [], (vint w64 x ∷ [], tt)))),
+    (κs, qs, tt, (d.words, (d.tables, (x, tt))), (words_val d.words ∷ [], (addresses_val d.tables ∷ [], (vint w64 x ∷ [], tt)))),
     tt,
   )
 
@@ -98,7 +98,7 @@ module _ {M : Type 1} {𝓤 : Ura M} (𝓛 : Logic 𝓤) (mem : Memory → SProp
 
   -- the clause that the callee's result meets
   abbrev Told : Walked → Type 0
-  Told r = toldOf r ≡ walkedFrom d.words.now d.tables.now x
+  Told r = told_of r ≡ walked_from d.words.now d.tables.now x
 
   said : (r : Walked) → ent 𝓤 (ensured 𝓛 covered.ended (covered.clauses 𝓛 mem run) κs (d.words, (d.tables, (x, tt))) tt r)
       (fact 𝓤 (Told r))
@@ -143,29 +143,29 @@ module _ {M : Type 1} {𝓤 : Ura M} (𝓛 : Logic 𝓤) (mem : Memory → SProp
 module _ {M : Type 1} {𝓤 : Ura M} (𝓛 : Logic 𝓤) (mem : Memory → SProp 𝓤) (run : Routine → Fun 𝓤) where
   open 𝓛 use {H}
 
-  walk-walks : (C : Calls 𝓤 H) (Λ : Loops 𝓤 H) → FmC 𝓤 H 𝓛.laws C → Triple 𝓤 (C #walk·walk) (Covered 𝓛 mem run)
+  walk_walks : (C : Calls 𝓤 H) (Λ : Loops 𝓤 H) → FmC 𝓤 H 𝓛.laws C → Triple 𝓤 (C #walk·walk) (Covered 𝓛 mem run)
       → Walks 𝓛 walk.ended stayed (WpFn 𝓤 H C Λ code.function) (walk.clauses 𝓛 mem run)
-  walk-walks C Λ fm known = walked 𝓛 walk.ended stayed (walk.clauses 𝓛 mem run) (WpFn 𝓤 H C Λ code.function)
+  walk_walks C Λ fm known = walked 𝓛 walk.ended stayed (walk.clauses 𝓛 mem run) (WpFn 𝓤 H C Λ code.function)
       (λ κs. (LL.vals (D κs) (L κs), (uint_vals w64, tt))) (λ κs. (LL.tells (D κs) (L κs), (uint_Tells w64, tt)))
       (λ κs qs bounds a g are. via 𝓤 _ (fst∗ 𝓤 _ (emp 𝓤))
       (steps 𝓛 mem run κs.0 κs.1.0 qs.0 qs.1.0 a.0 a.1.0 are.1.0.1 C Λ fm known
       ((LL.lawful (D κs) (L κs) 𝓛).typed a.0 _ are.0).0))
 
-walk-meets' : {M : Type 1} {𝓤 : Ura M} (𝓛 : Logic 𝓤) (mem : Memory → SProp 𝓤) (run : Routine → Fun 𝓤)
+walk_meets' : {M : Type 1} {𝓤 : Ura M} (𝓛 : Logic 𝓤) (mem : Memory → SProp 𝓤) (run : Routine → Fun 𝓤)
     (𝓣 : Tables 𝓤 𝓛.H)
     → Triple 𝓤 (𝓣.C #walk·walk) (Covered 𝓛 mem run)
     → Meets 𝓛 walk.signature (WpFn 𝓤 𝓛.H 𝓣.C 𝓣.Λ code.function) (walk.spec 𝓛 mem run)
-walk-meets' {𝓤 = 𝓤} 𝓛 mem run 𝓣 known =
+walk_meets' {𝓤 = 𝓤} 𝓛 mem run 𝓣 known =
     walk_Meets 𝓛 walk.ended stayed
-    (dropped-go 𝓛 (walk.ended).signature.params (walk.ended).kept ((λ κs x f. refl), ((λ κs x f. refl), tt)))
+    (dropped_go 𝓛 (walk.ended).signature.params (walk.ended).kept ((λ κs x f. refl), ((λ κs x f. refl), tt)))
     (walk.clauses 𝓛 mem run) (WpFn 𝓤 𝓛.H 𝓣.C 𝓣.Λ code.function) (WpFn-mono 𝓤 𝓛.H 𝓛.laws 𝓣 code.function)
-    (walk-walks 𝓛 mem run 𝓣.C 𝓣.Λ (fm_of 𝓤 𝓛.H 𝓛.laws 𝓣) known)
+    (walk_walks 𝓛 mem run 𝓣.C 𝓣.Λ (fm_of 𝓤 𝓛.H 𝓛.laws 𝓣) known)
 
-pub walk-spec : {M : Type 1} → stated.statement M
+pub walk_spec : {M : Type 1} → stated.statement M
 unfolding code.routine tables_of
-walk-spec 𝓤 𝓛 𝓜 𝓡 =
+walk_spec 𝓤 𝓛 𝓜 𝓡 =
     entered 𝓤 𝓛.H (triple_of 𝓛 walk.signature (walk.spec 𝓛 𝓜.mem 𝓡.run))
     (tables 𝓤 𝓛.H 𝓜 𝓡 code.env).C (tables 𝓤 𝓛.H 𝓜 𝓡 code.env).Λ #walker·walk code.function (code.unfolded 𝓤 𝓛.H 𝓜 𝓡)
-    (walk-meets' 𝓛 𝓜.mem 𝓡.run (tables_of 𝓤 𝓛.H 𝓜 (tables 𝓤 𝓛.H 𝓜 𝓡 code.env))
+    (walk_meets' 𝓛 𝓜.mem 𝓡.run (tables_of 𝓤 𝓛.H 𝓜 (tables 𝓤 𝓛.H 𝓜 𝓡 code.env))
     (cited 𝓤 𝓛.H (Covered 𝓛 𝓜.mem 𝓡.run) 𝓜 𝓡 code.env #walk·walk covered-def.routine code.calls-walk::walk
     (covered-thm.met 𝓤 𝓛 𝓜 𝓡)))
