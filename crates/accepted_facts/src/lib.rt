@@ -1,1 +1,3 @@
 // What follows where nothing is refused: definitions and theorems alone.
+#![tactic(auto)]
+

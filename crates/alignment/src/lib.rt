@@ -1,4 +1,6 @@
 // Rows 4, 6 and 7 of document 01's table, each over its list: lengths, bases and table addresses (hv-s2's arm64.rs, `validate`).
+#![tactic(auto)]
+
 ghost use Rattle.std.specs.Prelude.{true, ◌≡◌};
 ghost use Rattle.layout.specs.Check.{checks_of};
 ghost use Rattle.refusal.specs.Outcome.{outcome_of};

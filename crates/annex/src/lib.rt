@@ -1,5 +1,7 @@
 // The annex page of a guest: which addresses it reaches, where, and how (request M-100). No run is kept but the one that may go on: the
 // windows are gone through in address order, once to count and once to write.
+#![tactic(auto)]
+
 ghost use Rattle.std.specs.Prelude.{ℕ, suc, ◌+◌, ◌-◌, ◌*◌, ◌/◌, ◌≤◌, ◌<◌, List, [], ◌≡◌, get_or};
 ghost use Rattle.accepted_facts.specs.Guarded.{Guarded};
 ghost use Rattle.annex.specs.Annex.{address_count, annex_page, AnnexAnswer, annex_of};
@@ -22,7 +24,7 @@ use runs::Run;
 // A line for an image, for each page of data, each super and each device, and the last line: no page is longer (`LongestPage`).
 pub const LONGEST: usize = 41080;
 
-#[derive(Drop)]
+#[derive(Clone, Copy)]
 pub enum Annexed {
     // The bytes written.
     Told(u64),
@@ -30,14 +32,14 @@ pub enum Annexed {
 }
 
 // The run that the next piece may go on from.
-#[derive(Drop)]
+#[derive(Clone, Copy)]
 pub enum Begun {
     Run(Run),
     Nothing,
 }
 
 // The bytes so far, and what they still lack.
-#[derive(Drop)]
+#[derive(Clone, Copy)]
 pub struct Progress {
     pub at: usize,
     pub begun: Begun,

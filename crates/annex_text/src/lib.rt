@@ -1,4 +1,6 @@
 // The annex page of a scene, as it is printed (request M-100).
+#![tactic(auto)]
+
 ghost use Rattle.std.specs.Prelude.{◌≡◌, length};
 ghost use Rattle.annex_text.specs.Text.{annex_scene, annex_read};
 ghost use Rattle.annex_theorems.specs.LongestPage.{longest_page};

@@ -1,1 +1,3 @@
 // What is proved of the annex page: theorems alone.
+#![tactic(auto)]
+

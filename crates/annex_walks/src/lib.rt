@@ -1,1 +1,3 @@
 // What the annex page says of walks over encoded tables: theorems alone.
+#![tactic(auto)]
+

@@ -1,4 +1,6 @@
 // Rows 11 and 12 of document 01's table: the windows of a layout, pair by pair (hv-s2's arm64.rs, `validate`).
+#![tactic(auto)]
+
 ghost use Rattle.std.specs.Prelude.{◌+◌, ◌≡◌, ltb, drop};
 ghost use Rattle.refusal.specs.Outcome.{outcome_of};
 ghost use Rattle.refusal.specs.Table.{first, each, pairs};

@@ -1,11 +1,13 @@
 // The areas of a layout, in table 1 (hv-s2's arm64.rs).
+#![tactic(auto)]
+
 ghost use Rattle.std.specs.Prelude.{◌≡◌, get_or};
 ghost use Rattle.areas.specs.Area.{area, no_area, areas_of, live_areas_of, area_slot, area_has};
 
 use layout::{Layout, Window};
 
 // What has a word in table 1, if it is present: its first address has the slot, and the word names its table.
-#[derive(Drop)]
+#[derive(Clone, Copy)]
 pub struct Area {
     pub present: bool,
     pub ipa: u64,

@@ -1,4 +1,6 @@
 // The words of the arena: descriptors with their address joined (hv-s2's arm64.rs).
+#![tactic(auto)]
+
 ghost use Rattle.std.specs.Prelude.{◌+◌, ◌*◌, ◌≡◌};
 ghost use Rattle.arena.specs.Word.{table_to, page_to, block_to, image_to, device_to, leaf_for};
 ghost use Rattle.desc.specs.Descriptor.{page_address, block_address};

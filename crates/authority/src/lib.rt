@@ -1,4 +1,6 @@
 // Whether a domain may reach every frame that a map maps (hv-s2's check.rs).
+#![tactic(auto)]
+
 ghost use Rattle.std.specs.Prelude.{ℕ, min, ◌≤◌, ◌<◌, true, List, [], map, ◌≡◌, length, get_or};
 ghost use Rattle.authority.specs.Authority.{reach_rows, authority_rows};
 ghost use Rattle.authority.specs.Widest.{widest_at, widest_by, asked};

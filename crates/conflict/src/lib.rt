@@ -1,4 +1,6 @@
 // Row 17 of document 01's table: a frame in both maps (hv-s2's leafmap.rs).
+#![tactic(auto)]
+
 ghost use Rattle.std.specs.Prelude.{ℕ, min, [], ◌≡◌, length, get_or};
 ghost use Rattle.conflict.specs.Conflict.{row17};
 ghost use Rattle.refusal.specs.Outcome.{outcome_of};

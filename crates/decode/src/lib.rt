@@ -1,4 +1,6 @@
 // The decoders of stage-2 descriptors (hv-s2's arm64.rs): what any word means.
+#![tactic(auto)]
+
 ghost use Rattle.std.specs.Prelude.{◌≡◌};
 ghost use Rattle.desc.specs.Descriptor.{page_address, block_address, execute_never};
 ghost use Rattle.decode.specs.Decoded.{access_of, leaf_at, decoded_page, decoded_block, decoded_table, decoded_device};
@@ -6,7 +8,7 @@ ghost use Rattle.decode.specs.Decoded.{access_of, leaf_at, decoded_page, decoded
 use perm::Perm;
 
 // What a page or block descriptor means.
-#[derive(Drop)]
+#[derive(Clone, Copy)]
 pub struct Decoded {
     pub pa: u64,
     pub perm: Perm,
@@ -14,31 +16,31 @@ pub struct Decoded {
 }
 
 // What a device block descriptor means.
-#[derive(Drop)]
+#[derive(Clone, Copy)]
 pub struct DecodedDevice {
     pub pa: u64,
     pub xn: bool,
 }
 
-#[derive(Drop)]
+#[derive(Clone, Copy)]
 pub enum DecodedLeaf {
     Leaf(Decoded),
     Nothing,
 }
 
-#[derive(Drop)]
+#[derive(Clone, Copy)]
 pub enum DecodedTable {
     At(u64),
     Nothing,
 }
 
-#[derive(Drop)]
+#[derive(Clone, Copy)]
 pub enum DecodedBlock {
     Device(DecodedDevice),
     Nothing,
 }
 
-#[derive(Drop)]
+#[derive(Clone, Copy)]
 enum Access {
     Perm(Perm),
     Nothing,

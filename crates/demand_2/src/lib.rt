@@ -1,1 +1,3 @@
 // What walks of encoded arenas reach: theorems alone.
+#![tactic(auto)]
+

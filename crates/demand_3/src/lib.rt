@@ -1,1 +1,3 @@
 // What updates leave where they are cut: theorems alone.
+#![tactic(auto)]
+

@@ -1,11 +1,13 @@
 // AArch64 stage-2 descriptors at a 4 KB granule (hv-s2's arm64.rs): the words that are emitted.
+#![tactic(auto)]
+
 ghost use Rattle.std.specs.Prelude.{◌≡◌};
 ghost use Rattle.desc.specs.Words.{table_word, page_word, block_word, image_word, device_word, leaf_access_xn};
 
 use perm::Perm;
 
 // The access of a leaf, Ro or Rw, and whether it is execute never.
-#[derive(Drop)]
+#[derive(Clone, Copy)]
 pub struct AccessXn {
     pub access: Perm,
     pub xn: bool,

@@ -1,4 +1,6 @@
 // The descent through the tables, from level 1 through level 2 to level 3 (hv-s2's arm64.rs, `walk`).
+#![tactic(auto)]
+
 ghost use Rattle.std.specs.Prelude.{◌≤◌, ◌<◌, ◌≡◌};
 ghost use Rattle.descent.specs.Descent.{index, words_of, fetch, ends_at, next_table, through, stop_of};
 ghost use Rattle.descent.specs.Packed.{packed, unpacked};
@@ -8,7 +10,7 @@ use decode::DecodedTable;
 use layout::Layout;
 
 // Where a descent ends: at a leaf word, or at a level where no word leads on.
-#[derive(Drop)]
+#[derive(Clone, Copy)]
 pub enum Stop {
     Leaf { level: u32, word: u64 },
     Stopped { level: u32 },

@@ -1,4 +1,6 @@
 // What is printed of a scene (document 01, "Proved and printed").
+#![tactic(auto)]
+
 ghost use Rattle.std.specs.Prelude.{◌≡◌};
 ghost use Rattle.dump.specs.Dump.{printed_of, printed_read};
 ghost use Rattle.dump.specs.Pieces.{piece_at, pieces};
@@ -10,7 +12,7 @@ ghost use Rattle.scene_text.specs.Reading.{read_of};
 use layout::Layout;
 use refusal::Verdict;
 
-#[derive(Drop)]
+#[derive(Clone, Copy)]
 pub enum Answer {
     BadLine,
     // The row's number.
@@ -19,7 +21,7 @@ pub enum Answer {
 }
 
 // An answer, and the words of the tables.
-#[derive(Drop)]
+#[derive(Clone, Copy)]
 pub struct Dump {
     pub answer: Answer,
     pub words: [u64; Layout::ARENA_LEN],

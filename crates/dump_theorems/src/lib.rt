@@ -1,1 +1,3 @@
 // What is proved of the dump: theorems alone.
+#![tactic(auto)]
+

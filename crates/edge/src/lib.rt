@@ -1,4 +1,6 @@
 // Page-table edges as records (hv-s2's leafmap.rs), and what one of them says.
+#![tactic(auto)]
+
 ghost use Rattle.std.specs.Prelude.{◌≡◌};
 ghost use Rattle.edge.specs.Edge.{edge_of, perm_of, owns, counts};
 
@@ -6,7 +8,7 @@ use perm::Perm;
 
 // A page-table entry: slot `slot` of table `parent` references `child`. Callers in C and Rust lend arrays of it.
 #[repr(C)]
-#[derive(Drop)]
+#[derive(Clone, Copy)]
 pub struct Edge {
     pub parent: u32,
     pub slot: u32,

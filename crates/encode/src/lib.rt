@@ -1,4 +1,6 @@
 // The words that the machine walks (hv-s2's arm64.rs, `encode`).
+#![tactic(auto)]
+
 ghost use Rattle.std.specs.Prelude.{ℕ, ◌+◌, ◌*◌, ◌/◌, ◌≤◌, ◌<◌, [], ◌∷◌, map, ◌≡◌, length, get_or};
 ghost use Rattle.arena.specs.Encoded.{run, one, stored, page_at, super_at, super_run, device_run, image_run, area_run, upper_runs, leaf_runs};
 ghost use Rattle.arena.specs.Encoded.{cleared, encoded};

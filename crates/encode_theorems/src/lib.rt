@@ -1,1 +1,3 @@
 // What is proved of encoded arenas: theorems alone.
+#![tactic(auto)]
+

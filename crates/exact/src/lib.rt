@@ -1,4 +1,6 @@
 // Whether a map is what the edges of its span give (hv-s2's check.rs).
+#![tactic(auto)]
+
 ghost use Rattle.std.specs.Prelude.{ℕ, ◌≤◌, ◌<◌, true, ◌≡◌, length, get_or};
 ghost use Rattle.edge.specs.Edge.{edges_of};
 ghost use Rattle.exact.specs.Exact.{row25, compared_rows, exact_rows};

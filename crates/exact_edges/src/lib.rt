@@ -1,4 +1,6 @@
 // Whether a map is what the edges of its span give, from a lent slice of edges (hv-s2's check.rs).
+#![tactic(auto)]
+
 ghost use Rattle.std.specs.Prelude.{◌≡◌};
 ghost use Rattle.exact.specs.Exact.{exact_rows};
 ghost use Rattle.refusal.specs.Outcome.{outcome_of};

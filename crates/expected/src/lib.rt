@@ -1,4 +1,6 @@
 // The entries that the edges of a span give (hv-s2's check.rs).
+#![tactic(auto)]
+
 ghost use Rattle.std.specs.Prelude.{ℕ, ◌<◌, ◌≡◌, length, get_or, replicate};
 ghost use Rattle.edge.specs.Edge.{edges_of};
 ghost use Rattle.expected.specs.Expected.{lands, after_edge, expected};

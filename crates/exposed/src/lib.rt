@@ -1,4 +1,6 @@
 // Which table a guest could be given to write: no row compares tables with outputs, so board code asks.
+#![tactic(auto)]
+
 ghost use Rattle.std.specs.Prelude.{◌<◌, ◌≡◌};
 ghost use Rattle.exposed.specs.Exposed.{lies_in, first_window, first_table, exposure, exposure_values, exposure_of};
 ghost use Rattle.layout.specs.Size.{uncountable};
@@ -9,13 +11,13 @@ ghost use Rattle.rows.specs.Rows.{refusals};
 use layout::{Layout, SuperWindow, Table, Window};
 use refusal::{Refusal, Verdict};
 
-#[derive(Drop)]
+#[derive(Clone, Copy)]
 pub enum Exposure {
     Table { table: u64, window: u64 },
     Nothing,
 }
 
-#[derive(Drop)]
+#[derive(Clone, Copy)]
 pub enum Exposed {
     Told(Exposure),
     Refused(Refusal),

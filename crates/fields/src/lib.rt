@@ -1,1 +1,3 @@
 // Bit fields, look-up by code: definitions alone.
+#![tactic(auto)]
+

@@ -1,4 +1,6 @@
 // The steps of filling leaf maps from edges (hv-s2's leafmap.rs): both maps are cleared, edges are placed, conflicts are looked for.
+#![tactic(auto)]
+
 ghost use Rattle.std.specs.Prelude.{◌≡◌, length, replicate};
 ghost use Rattle.filling.specs.Filling.{filling, put, row16, put_in, placed, placed_next, onward, conflicts, started};
 ghost use Rattle.filling.specs.Progress.{filling_at, unless_past};
@@ -10,7 +12,7 @@ use p2m::{Span, TableSpan};
 use refusal::{Refusal, Verdict};
 
 // How far a filling has come. A refusal is told by `finish`; until then it is a few bytes, which are handed from edge to edge.
-#[derive(Drop)]
+#[derive(Clone, Copy)]
 pub enum Progress {
     Going,
     TooLong,

@@ -1,9 +1,11 @@
 // Grants as records (hv-s2's check.rs), and what one of them covers.
+#![tactic(auto)]
+
 ghost use Rattle.std.specs.Prelude.{◌≡◌};
 ghost use Rattle.grant.specs.Grant.{grant_of, covers};
 
 // The owner `grantor` lets `grantee` reach `frame`. Both are owner numbers.
-#[derive(Drop)]
+#[derive(Clone, Copy)]
 pub struct Grant {
     pub grantor: u32,
     pub grantee: u32,

@@ -1,25 +1,27 @@
 // The translation granule and the start level (hv-s2's arm64.rs): how many bits of an address a walk resolves, and the code of each
 // in VTCR_EL2.
+#![tactic(auto)]
+
 ghost use Rattle.std.specs.Prelude.{◌≡◌};
 ghost use Rattle.granule.specs.Granule.{page_bits, level_bits, tg0, granule_named};
 ghost use Rattle.granule.specs.StartLevel.{number, sl0, level_named, span};
 
 // The translation granule: the size of a page.
-#[derive(Drop)]
+#[derive(Clone, Copy)]
 pub enum Granule {
     K4,
     K16,
     K64,
 }
 
-#[derive(Drop)]
+#[derive(Clone, Copy)]
 pub enum GranuleNamed {
     Granule(Granule),
     Reserved,
 }
 
 // The level that the walk starts at. Level 3 holds the pages.
-#[derive(Drop)]
+#[derive(Clone, Copy)]
 pub enum StartLevel {
     L0,
     L1,
@@ -27,7 +29,7 @@ pub enum StartLevel {
     L3,
 }
 
-#[derive(Drop)]
+#[derive(Clone, Copy)]
 pub enum LevelNamed {
     Level(StartLevel),
     Reserved,

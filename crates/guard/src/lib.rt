@@ -1,4 +1,6 @@
 // What guards encoding and updates: rows 1 to 14 of document 01's table.
+#![tactic(auto)]
+
 ghost use Rattle.std.specs.Prelude.{ℕ, true, [], ◌≡◌, drop, get_or};
 ghost use Rattle.layout.specs.Size.{board_limit};
 ghost use Rattle.refusal.specs.Outcome.{outcome_of};

@@ -1,5 +1,7 @@
 // Stage 2 translation as crates/manual defines it, level by level: what the judge of an Arm machine links (arm/README.md). No board code
 // uses it.
+#![tactic(auto)]
+
 ghost use Rattle.std.specs.Prelude.{◌<◌, ◌∷◌, ◌≡◌, length};
 ghost use Rattle.descent.specs.Descent.{words_of, fetch};
 ghost use Rattle.judge_translation.specs.Answer.{is_at, elsewhere_of, machine_of, access_numbered, translated_of, translation_answer};
@@ -9,7 +11,7 @@ ghost use Rattle.manual.specs.Translation.{permits, leaf, level1, level2, level3
 use layout::Layout;
 
 // What an access gives: a byte of the output, or a fault.
-#[derive(Drop)]
+#[derive(Clone, Copy)]
 pub enum Translated {
     Byte(u64),
     Fault,

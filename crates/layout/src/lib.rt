@@ -1,4 +1,6 @@
 // Where the tables stand and what they map (hv-s2's arm64.rs).
+#![tactic(auto)]
+
 ghost use Rattle.std.specs.Prelude.{◌<◌, ◌≡◌};
 ghost use Rattle.layout.specs.Check.{check, checks_of};
 ghost use Rattle.layout.specs.Layout.{image_of, tables_of};
@@ -6,14 +8,14 @@ ghost use Rattle.layout.specs.Size.{first_word};
 ghost use Rattle.layout.specs.Window.{image_window, data_window, super_counted, device_window, devices_of, l1_slot, l2_slot, slot};
 
 // The address of the guest image, to which it is mapped itself; absent where a guest's code lies in its own memory.
-#[derive(Drop)]
+#[derive(Clone, Copy)]
 pub enum GuestImage {
     At(u64),
     Absent,
 }
 
 // The sixteen fields, numbered from 1 in this order.
-#[derive(Drop)]
+#[derive(Clone, Copy)]
 pub struct Layout {
     pub l1_pa: u64,
     pub l2_code_pa: u64,
@@ -34,7 +36,7 @@ pub struct Layout {
 }
 
 // A table's code, 1 to 6, and its address, if it is present.
-#[derive(Drop)]
+#[derive(Clone, Copy)]
 pub struct Table {
     pub code: u64,
     pub present: bool,
@@ -42,7 +44,7 @@ pub struct Table {
 }
 
 // A window's code, 1 to 4: `span` bytes from `ipa` on are mapped to those from `pa` on, if it is present.
-#[derive(Drop)]
+#[derive(Clone, Copy)]
 pub struct Window {
     pub code: u64,
     pub present: bool,
@@ -52,14 +54,14 @@ pub struct Window {
 }
 
 // The super window, if 64 bits hold its length.
-#[derive(Drop)]
+#[derive(Clone, Copy)]
 pub enum SuperWindow {
     Counted(Window),
     Uncountable,
 }
 
 // A base that must be aligned: its code among row 6's checks, 1 to 6, and whether it is not.
-#[derive(Drop)]
+#[derive(Clone, Copy)]
 pub struct Check {
     pub code: u64,
     pub fails: bool,

@@ -1,4 +1,6 @@
 // The layout that board code's numbers say.
+#![tactic(auto)]
+
 ghost use Rattle.std.specs.Prelude.{◌≡◌};
 ghost use Rattle.layout.specs.Layout.{layout_of};
 

@@ -1,4 +1,6 @@
 // Which frames a domain's page tables reach, and at what permission (hv-s2's leafmap.rs).
+#![tactic(auto)]
+
 ghost use Rattle.std.specs.Prelude.{◌≡◌};
 ghost use Rattle.edge.specs.Edge.{edges_of};
 ghost use Rattle.filling.specs.Filling.{filling, filled};

@@ -1,4 +1,6 @@
 // Which frames a domain's page tables reach, from a lent slice of edges (hv-s2's leafmap.rs).
+#![tactic(auto)]
+
 ghost use Rattle.std.specs.Prelude.{◌≡◌};
 ghost use Rattle.filling.specs.Filling.{filling, filled};
 ghost use Rattle.refusal.specs.Outcome.{outcome_of};

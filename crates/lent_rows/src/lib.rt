@@ -1,4 +1,6 @@
 // Rows 1 to 3 of document 01's table: the arena and the maps that a caller lends.
+#![tactic(auto)]
+
 ghost use Rattle.std.specs.Prelude.{◌≡◌};
 ghost use Rattle.refusal.specs.Outcome.{outcome_of};
 ghost use Rattle.refusal.specs.Table.{first, each_from};

@@ -1,4 +1,6 @@
 // The entries of a lent map: one of them, and the largest.
+#![tactic(auto)]
+
 ghost use Rattle.std.specs.Prelude.{◌≡◌, get_or};
 ghost use Rattle.map_entries.specs.Larger.{largest};
 

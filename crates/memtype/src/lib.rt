@@ -1,8 +1,10 @@
 // What a region of memory is, named once and encoded for both stages (hv-s2's arm64.rs).
+#![tactic(auto)]
+
 ghost use Rattle.std.specs.Prelude.{◌≡◌};
 ghost use Rattle.memtype.specs.Memory.{mair_byte, leaf_bits, shareability_bits};
 
-#[derive(Drop)]
+#[derive(Clone, Copy)]
 pub enum MemoryType {
     // Normal, write-back, inner shareable.
     NormalWbIsh,

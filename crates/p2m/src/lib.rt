@@ -1,23 +1,25 @@
 // Frames by owner and kind (hv-core's p2m.rs), and the span of a table's leaves (hv-s2's leafmap.rs).
+#![tactic(auto)]
+
 ghost use Rattle.std.specs.Prelude.{◌≡◌};
 ghost use Rattle.p2m.specs.Frame.{span_code, span_named, span_of_kind, owner_of, kind_at};
 
 // How much guest memory one leaf covers: a page or a block.
-#[derive(Drop)]
+#[derive(Clone, Copy)]
 pub enum Span {
     Base,
     Super,
 }
 
 // The span of a table's leaves, if the table has one that is emitted.
-#[derive(Drop)]
+#[derive(Clone, Copy)]
 pub enum TableSpan {
     Leaves(Span),
     Unsupported,
 }
 
 // Who owns a frame.
-#[derive(Drop)]
+#[derive(Clone, Copy)]
 pub enum Owner {
     Domain(u16),
     Nobody,

@@ -1,9 +1,11 @@
 // What a frame is referenced as: a page, or a page table of a level (hv-core's p2m.rs).
+#![tactic(auto)]
+
 ghost use Rattle.std.specs.Prelude.{◌≡◌};
 ghost use Rattle.page_type.specs.PageType.{kind_of, level_of_kind, type_code, level_of_type, child_type};
 
 // The level of a page table. L1 is the bottom: its entries map ordinary pages.
-#[derive(Drop)]
+#[derive(Clone, Copy)]
 pub enum PtLevel {
     L1,
     L2,
@@ -12,21 +14,21 @@ pub enum PtLevel {
 }
 
 // What a frame is referenced as.
-#[derive(Drop)]
+#[derive(Clone, Copy)]
 pub enum PageType {
     Writable,
     PageTable(PtLevel),
 }
 
 // The type that an interior entry must reference, if a table of that level can have one.
-#[derive(Drop)]
+#[derive(Clone, Copy)]
 pub enum ChildType {
     Child(PageType),
     Nothing,
 }
 
 // The level of a page table, if it is one.
-#[derive(Drop)]
+#[derive(Clone, Copy)]
 pub enum TableLevel {
     Level(PtLevel),
     Nothing,

@@ -1,9 +1,11 @@
 // The permission of a leaf (hv-s2's leafmap.rs), and an entry of a leaf map.
+#![tactic(auto)]
+
 ghost use Rattle.std.specs.Prelude.{◌≡◌};
 ghost use Rattle.perm.specs.Perm.{perm_code, perm_writes, perm_executes, entry_code, entry_named};
 
 // There is none that is writable and executable.
-#[derive(Drop)]
+#[derive(Clone, Copy)]
 pub enum Perm {
     Ro,
     Rw,
@@ -11,7 +13,7 @@ pub enum Perm {
 }
 
 // An entry of a leaf map.
-#[derive(Drop)]
+#[derive(Clone, Copy)]
 pub enum Entry {
     Mapped(Perm),
     Unmapped,

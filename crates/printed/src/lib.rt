@@ -1,4 +1,6 @@
 // The lines that the dump prints (document 01, "Proved and printed").
+#![tactic(auto)]
+
 ghost use Rattle.std.specs.Prelude.{◌+◌, ◌≤◌, ◌≡◌, length};
 ghost use Rattle.std.proofs.Math.Seq.{paste};
 ghost use Rattle.printed.specs.Line.{bad_line, refused_line, longest, Puts};

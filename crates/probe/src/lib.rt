@@ -1,5 +1,7 @@
 // Every function of the lower layers by a number, with eight numbers in and eight out: what the comparison with the Rust links, and
 // what the replay of its recorded answers calls. Nothing else uses it.
+#![tactic(auto)]
+
 ghost use Rattle.std.specs.Prelude.{◌≡◌};
 ghost use Rattle.probe.specs.Answers.{answer_of};
 

@@ -9,7 +9,7 @@ use granule::{Granule, GranuleNamed, LevelNamed, StartLevel};
 use sizes::{PaSize, SizeNamed, VmidBits};
 
 // The width of a VMID by its code.
-#[derive(Drop)]
+#[derive(Clone, Copy)]
 pub enum WidthNamed {
     Width(VmidBits),
     Nothing,

@@ -6,7 +6,7 @@ ghost use Rattle.probe_numbers.specs.Levels.{child_number, table_level_numbers, 
 use page_type::{ChildType, PageType, PtLevel, TableLevel};
 
 // A page type by its code: 1 is writable, a page table has its kind.
-#[derive(Drop)]
+#[derive(Clone, Copy)]
 enum TypeNamed {
     Named(PageType),
     Nothing,

@@ -10,7 +10,7 @@ use regime::{Determined, Stage2Regime};
 use sizes::{PaSize, SizeNamed, VmidBits};
 use vtcr::Vtcr;
 
-#[derive(Drop)]
+#[derive(Clone, Copy)]
 enum RegimeNamed {
     Regime(Stage2Regime),
     Nothing,

@@ -8,7 +8,7 @@ use memtype::MemoryType;
 use perm::Perm;
 
 // A permission by its code.
-#[derive(Drop)]
+#[derive(Clone, Copy)]
 enum PermNamed {
     Perm(Perm),
     Nothing,

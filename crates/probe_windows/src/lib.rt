@@ -1,5 +1,7 @@
 // `window_reach` for the comparison with the Rust, which alone links it: a layout's numbers and two maps in, the nine numbers of the
 // answer out.
+#![tactic(auto)]
+
 ghost use Rattle.std.specs.Prelude.{◌≡◌};
 ghost use Rattle.probe_windows.specs.Answer.{granted_answer};
 

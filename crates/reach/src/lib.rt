@@ -1,4 +1,6 @@
 // What an address reaches, as an answer (hv-s2's arm64.rs, `Reach`).
+#![tactic(auto)]
+
 ghost use Rattle.std.specs.Prelude.{◌≡◌};
 ghost use Rattle.perm.specs.Perm.{perm_writes};
 ghost use Rattle.reach.specs.Reach.{reach_values, told_of};
@@ -8,21 +10,21 @@ use perm::Perm;
 use refusal::Refusal;
 
 // The output byte, the access, Ro or Rw, and whether it is execute never.
-#[derive(Drop)]
+#[derive(Clone, Copy)]
 pub struct Reach {
     pub pa: u64,
     pub perm: Perm,
     pub xn: bool,
 }
 
-#[derive(Drop)]
+#[derive(Clone, Copy)]
 pub enum Reached {
     At(Reach),
     Nothing,
 }
 
 // The answer of a call that tells what an address reaches.
-#[derive(Drop)]
+#[derive(Clone, Copy)]
 pub enum Walked {
     Told(Reached),
     Refused(Refusal),

@@ -1,4 +1,6 @@
 // The answer of a call that document 01's table can refuse.
+#![tactic(auto)]
+
 ghost use Rattle.std.specs.Prelude.{◌≡◌};
 ghost use Rattle.refusal.specs.Outcome.{leaf_values, wanted_values, row_of, outcome_of, row_words, outcome_words};
 ghost use Rattle.refusal.specs.declared.Refusal.TheVariants.{BadTableEntry, BadImageBlock, BadLeaf, UnauthorizedMapping, Inexact};
@@ -9,7 +11,7 @@ use perm::{Entry, Perm};
 
 // Rows 1 to 27, by the Rust's names where it has them, with the values that a refusal carries. Names are document 01's codes: maps,
 // windows and tables, and in `WindowUnaligned` row 6's checks.
-#[derive(Drop)]
+#[derive(Clone, Copy)]
 pub enum Refusal {
     ArenaLength,
     MapLength,
@@ -110,7 +112,7 @@ pub enum Refusal {
     PageTooLong,
 }
 
-#[derive(Drop)]
+#[derive(Clone, Copy)]
 pub enum Verdict {
     Accepted,
     Refused(Refusal),

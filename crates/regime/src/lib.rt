@@ -1,11 +1,13 @@
 // The stage-2 translation regime (hv-s2's arm64.rs): the parameters that a walker reads the tables under.
+#![tactic(auto)]
+
 ghost use Rattle.std.specs.Prelude.{◌≡◌};
 ghost use Rattle.regime.specs.Regime.{below, input_fits, valid_regime, t0sz_of, table_align};
 
 use granule::{Granule, StartLevel};
 use sizes::{PaSize, VmidBits};
 
-#[derive(Drop)]
+#[derive(Clone, Copy)]
 pub struct Stage2Regime {
     pub granule: Granule,
     // The input address size in bits.
@@ -19,7 +21,7 @@ pub struct Stage2Regime {
 }
 
 // A number that a regime determines. Undefined is where the Rust's sum or shift has no answer.
-#[derive(Drop)]
+#[derive(Clone, Copy)]
 pub enum Determined {
     Value(u64),
     Undefined,

@@ -1,5 +1,7 @@
 // Replays the Rust's recorded answers. A line of the input is a function's number and its eight numbers; the port's eight answers are
 // printed in the same form, and must be the Rust's, which are the expected output.
+#![tactic(auto)]
+
 use replay_lines::Read;
 
 // More lines than any recording has: a proved loop has to end.

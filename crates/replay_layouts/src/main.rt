@@ -1,5 +1,7 @@
 // Replays the Rust's recorded answers on layouts. A line of the input is the 17 numbers of a layout; the port's nine answers are
 // printed in the same form, and must be the Rust's, which are the expected output.
+#![tactic(auto)]
+
 use layout::Layout;
 use replay_lines::Read;
 

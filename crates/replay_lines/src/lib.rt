@@ -1,10 +1,12 @@
 // The lines of a record: numbers of 16 lower-case hexadecimal digits, one byte after each.
+#![tactic(auto)]
+
 ghost use Rattle.std.specs.Prelude.{◌<◌, ◌≡◌};
 ghost use Rattle.replay_lines.specs.Bytes.{bytes_of};
 
 use libc::{STDIN_FILENO, STDOUT_FILENO};
 
-#[derive(Drop)]
+#[derive(Clone, Copy)]
 pub enum Read {
     Number(u64),
     End,

@@ -1,6 +1,8 @@
 // Replays the Rust's recorded answers on leaf maps. A line of the input is a call in 16 numbers: which of the three it is, the domain,
 // the span, base and super, four edges, five frames and two grants. The port's nine answers are printed in the same form, after a
 // filling with both maps, and must be the Rust's, which are the expected output.
+#![tactic(auto)]
+
 use p2m::Span;
 use refusal::Verdict;
 use replay_lines::Read;

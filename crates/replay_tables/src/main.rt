@@ -2,6 +2,8 @@
 // the arena are lent, and two operands; the 17 numbers of a layout follow. The arena stays from line to line; a line whose call is 0
 // stores a word. The port's nine answers are printed in the same form, with a digest of the arena where the call may store, and must be
 // the Rust's, which are the expected output.
+#![tactic(auto)]
+
 use layout::Layout;
 use refusal::Verdict;
 

@@ -1,11 +1,13 @@
 // Runs of addresses, and their lines on the annex page (request M-100).
+#![tactic(auto)]
+
 ghost use Rattle.std.specs.Prelude.{[], ◌∷◌, ◌≡◌};
 ghost use Rattle.runs.specs.Page.{access_text, execute_text, run_line, last_line};
 
 use perm::Perm;
 
 // Addresses with continuous output and equal access: from the first to the last, the output of the first, and access as a walk tells it.
-#[derive(Drop)]
+#[derive(Clone, Copy)]
 pub struct Run {
     pub first: u64,
     pub last: u64,

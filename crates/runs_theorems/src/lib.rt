@@ -1,1 +1,3 @@
 // What is proved of runs: theorems alone.
+#![tactic(auto)]
+

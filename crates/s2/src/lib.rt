@@ -1,5 +1,7 @@
 // The calls of board code: numbers and slices in, document 01's number and the carried values out. A layout is lent as its numbers: the
 // sixteen fields in their order, with whether there is an image just before the image. A call returns 0 where it accepts.
+#![tactic(auto)]
+
 ghost use Rattle.std.specs.Prelude.{◌<◌, ◌^◌, [], ◌∷◌, ◌≡◌, get_or};
 ghost use Rattle.edge.specs.Edge.{edges_of};
 ghost use Rattle.refusal.specs.Outcome.{outcome_of, outcome_words};

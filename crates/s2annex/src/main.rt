@@ -1,4 +1,6 @@
 // Prints the annex page of a scene (request M-100): reads the scene's bytes, and writes those that are printed.
+#![tactic(auto)]
+
 ghost use Rattle.s2annex.specs.Input.{PrintsText};
 
 use layout::Layout;

@@ -1,4 +1,6 @@
 // Prints the tables of a scene (document 01, "Proved and printed"): reads its bytes, and writes those that are printed.
+#![tactic(auto)]
+
 ghost use Rattle.s2dump.specs.Input.{DumpsText};
 
 use dump::Dump;

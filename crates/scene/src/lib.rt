@@ -1,4 +1,6 @@
 // What the lines of a scene set (document 01, "Proved and printed").
+#![tactic(auto)]
+
 ghost use Rattle.std.specs.Prelude.{◌≡◌, set};
 ghost use Rattle.layout.specs.Layout.{field_at};
 ghost use Rattle.scene.specs.Scene.{applied, scene, with_field};

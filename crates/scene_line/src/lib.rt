@@ -1,10 +1,12 @@
 // What a line of a scene says (document 01, "Proved and printed").
+#![tactic(auto)]
+
 ghost use Rattle.std.specs.Prelude.{◌≡◌};
 ghost use Rattle.scene_line.specs.Line.{digit_of, first_space, letter_l, line_of, number_of, said, said_after, says};
 
 use layout::Layout;
 
-#[derive(Drop)]
+#[derive(Clone, Copy)]
 pub enum Line {
     Field { field: usize, value: u64 },
     Base { position: usize, code: u8 },
@@ -12,7 +14,7 @@ pub enum Line {
     Bad,
 }
 
-#[derive(Drop)]
+#[derive(Clone, Copy)]
 pub enum Number {
     Value(u64),
     NoNumber,

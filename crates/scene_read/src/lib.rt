@@ -1,4 +1,6 @@
 // Reads a scene from the program's input, piece by piece.
+#![tactic(auto)]
+
 ghost use Rattle.scene.specs.Scene.{scene};
 ghost use Rattle.scene_read.specs.Input.{ReadsText};
 

@@ -1,4 +1,6 @@
 // The lines of a scene, from a text that is read piece by piece (document 01, "Proved and printed").
+#![tactic(auto)]
+
 ghost use Rattle.std.specs.Prelude.{◌≤◌, min, ◌≡◌, length, take};
 ghost use Rattle.scene.specs.Scene.{scene};
 ghost use Rattle.scene_line.specs.Line.{line_of};
@@ -9,7 +11,7 @@ ghost use Rattle.scene_text.specs.Text.{heard};
 pub const LINE: usize = 36;
 
 // How many bytes of an unfinished line are kept, or that a line was bad.
-#[derive(Drop)]
+#[derive(Clone, Copy)]
 pub enum Taken {
     Unfinished(usize),
     Bad,

@@ -1,9 +1,11 @@
 // The output size and the width of a VMID, each with its code in VTCR_EL2 (hv-s2's arm64.rs).
+#![tactic(auto)]
+
 ghost use Rattle.std.specs.Prelude.{◌≡◌};
 ghost use Rattle.sizes.specs.Codes.{ps, size_named, vs, vmid_bits_named, vmids};
 
 // The output address size in bits.
-#[derive(Drop)]
+#[derive(Clone, Copy)]
 pub enum PaSize {
     B32,
     B36,
@@ -14,14 +16,14 @@ pub enum PaSize {
     B52,
 }
 
-#[derive(Drop)]
+#[derive(Clone, Copy)]
 pub enum SizeNamed {
     Size(PaSize),
     Reserved,
 }
 
 // The width of a VMID. VTCR_EL2 has it and the tables do not, so it is no part of the regime.
-#[derive(Drop)]
+#[derive(Clone, Copy)]
 pub enum VmidBits {
     B8,
     B16,

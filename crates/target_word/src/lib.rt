@@ -1,4 +1,6 @@
 // The word that encoding into zeros leaves at a place of the arena: what an update stores.
+#![tactic(auto)]
+
 ghost use Rattle.std.specs.Prelude.{ℕ, ◌+◌, ◌*◌, ◌<◌, List, map, ◌≡◌};
 ghost use Rattle.arena.specs.Encoded.{word_at, stored, device_run, area_run, target};
 ghost use Rattle.layout.specs.Size.{entries};

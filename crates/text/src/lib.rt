@@ -1,4 +1,6 @@
 // Texts in buffers, and the digits of numbers.
+#![tactic(auto)]
+
 ghost use Rattle.std.specs.Prelude.{◌%◌, ◌≡◌, length};
 ghost use Rattle.text.specs.Digits.{glyph, digits};
 ghost use Rattle.text.specs.Front.{put_at};

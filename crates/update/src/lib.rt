@@ -1,4 +1,6 @@
 // The update step (document 01, "Update"): each call makes one store, so that an update may be cut between any two.
+#![tactic(auto)]
+
 ghost use Rattle.std.specs.Prelude.{◌<◌, ◌≡◌};
 ghost use Rattle.layout.specs.Size.{arena_length};
 ghost use Rattle.refusal.specs.Outcome.{outcome_of};

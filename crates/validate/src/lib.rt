@@ -1,4 +1,6 @@
 // Rows 4 to 12 of document 01's table, of a layout (hv-s2's arm64.rs, `validate`).
+#![tactic(auto)]
+
 ghost use Rattle.std.specs.Prelude.{◌≡◌};
 ghost use Rattle.refusal.specs.Outcome.{outcome_of};
 ghost use Rattle.refusal.specs.Table.{first};

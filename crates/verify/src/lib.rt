@@ -1,4 +1,6 @@
 // Verification (hv-s2's arm64.rs, `verify_encoding`): the words of an arena are read back and compared with what layout and maps want.
+#![tactic(auto)]
+
 ghost use Rattle.std.specs.Prelude.{◌≡◌};
 ghost use Rattle.refusal.specs.Outcome.{outcome_of};
 ghost use Rattle.refusal.specs.Table.{first};

@@ -1,4 +1,6 @@
 // Verification of a device's table (hv-s2's arm64.rs, `verify_encoding`): each block is the one that its window wants.
+#![tactic(auto)]
+
 ghost use Rattle.std.specs.Prelude.{ℕ, ◌≤◌, ◌<◌, [], ◌≡◌};
 ghost use Rattle.arena.specs.Word.{device_to};
 ghost use Rattle.fields.specs.Named.{pick};

@@ -1,4 +1,6 @@
 // Verification of tables 4 and 5 (hv-s2's arm64.rs, `verify_encoding`): each leaf is the one that the maps want.
+#![tactic(auto)]
+
 ghost use Rattle.std.specs.Prelude.{ℕ, ◌+◌, ◌*◌, ◌≤◌, ◌<◌, [], ◌≡◌};
 ghost use Rattle.layout.specs.Size.{entries, block};
 ghost use Rattle.layout.specs.Window.{l2_slot};

@@ -1,4 +1,6 @@
 // What verification reads of a word, and the leaf that an entry wants there (hv-s2's arm64.rs).
+#![tactic(auto)]
+
 ghost use Rattle.std.specs.Prelude.{◌≡◌, get_or};
 ghost use Rattle.decode.specs.Emitted.{leaf_with};
 ghost use Rattle.decode.specs.declared.DecodedLeaf.TheVariants.{Leaf};

@@ -1,1 +1,3 @@
 // What verification refuses, row by row: definitions alone.
+#![tactic(auto)]
+

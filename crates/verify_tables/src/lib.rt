@@ -1,4 +1,6 @@
 // Verification of tables 1 to 3 (hv-s2's arm64.rs, `verify_encoding`): the words that name tables, the image's block, and no others.
+#![tactic(auto)]
+
 ghost use Rattle.std.specs.Prelude.{◌≤◌, ◌≡◌};
 ghost use Rattle.areas.specs.Area.{live_areas_of};
 ghost use Rattle.layout.specs.Size.{entries};

@@ -1,1 +1,3 @@
 // What is proved of verification: theorems alone.
+#![tactic(auto)]
+

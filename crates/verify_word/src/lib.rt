@@ -1,4 +1,6 @@
 // Rows 18 to 22 of document 01's table, of one word: what its decoder finds there, against what is wanted (hv-s2's arm64.rs).
+#![tactic(auto)]
+
 ghost use Rattle.std.specs.Prelude.{◌≡◌};
 ghost use Rattle.decode.specs.declared.DecodedBlock.TheVariants.{Device};
 ghost use Rattle.refusal.specs.Outcome.{outcome_of};

@@ -1,4 +1,6 @@
 // VTCR_EL2 (hv-s2's arm64.rs): the regime as the CPU is given it.
+#![tactic(auto)]
+
 ghost use Rattle.std.specs.Prelude.{◌<◌, ◌≡◌};
 ghost use Rattle.vtcr.specs.Fields.{vtcr_fields_of, vtcr_joined};
 ghost use Rattle.vtcr.specs.Vtcr.{regime_named, vtcr_of, decoded_vtcr};
@@ -7,13 +9,13 @@ use granule::{Granule, GranuleNamed, LevelNamed, StartLevel};
 use regime::Stage2Regime;
 use sizes::{PaSize, SizeNamed, VmidBits};
 
-#[derive(Drop)]
+#[derive(Clone, Copy)]
 pub enum Vtcr {
     Value(u64),
     Invalid,
 }
 
-#[derive(Drop)]
+#[derive(Clone, Copy)]
 pub enum DecodedVtcr {
     Regime(Stage2Regime, VmidBits),
     Nothing,
@@ -96,7 +98,7 @@ fn regime_named(fields: VtcrFields) -> DecodedVtcr
 }
 
 // The fields of VTCR_EL2: a value taken apart and put together.
-#[derive(Drop)]
+#[derive(Clone, Copy)]
 pub struct VtcrFields {
     pub t0sz: u64,
     pub sl0: u64,

@@ -1,4 +1,6 @@
 // VTTBR_EL2 (hv-s2's arm64.rs): the table set as the CPU is given it.
+#![tactic(auto)]
+
 ghost use Rattle.std.specs.Prelude.{◌≡◌};
 ghost use Rattle.vttbr.specs.Vttbr.{vttbr_of, baddr, vmid_of};
 

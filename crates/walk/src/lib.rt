@@ -1,4 +1,6 @@
 // What a walk of the tables reaches (hv-s2's arm64.rs, `walk`).
+#![tactic(auto)]
+
 ghost use Rattle.std.specs.Prelude.{◌<◌, ◌≡◌};
 ghost use Rattle.decode.specs.Decoded.{output_of};
 ghost use Rattle.layout.specs.Size.{block, output_limit};

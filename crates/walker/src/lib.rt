@@ -1,5 +1,7 @@
 // The arena and the six addresses, kept together. The borrow checker covers no function over such a struct, so these are thin, and
 // the walk itself is `walk`'s.
+#![tactic(auto)]
+
 ghost use Rattle.std.specs.Prelude.{◌≡◌};
 ghost use Rattle.reach.specs.Reach.{told_of};
 ghost use Rattle.walk.specs.Walk.{walked_from};
@@ -9,7 +11,7 @@ use reach::Walked;
 
 // The 3,072 words, and the addresses of the six tables in the arena's order. Two lifetimes: the borrow checker covers no caller that
 // would have to find a common one.
-#[derive(Drop)]
+#[derive(Clone, Copy)]
 pub struct Walker<'a, 'b> {
     pub words: &'a [u64],
     pub tables: &'b [u64; Layout::TABLES],

@@ -1,4 +1,6 @@
 // What the windows say that an address reaches (hv-s2's arm64.rs, `window_reach`): no descriptor is looked at.
+#![tactic(auto)]
+
 ghost use Rattle.std.specs.Prelude.{◌+◌, ◌-◌, ◌/◌, ◌≤◌, ◌<◌, true, map, ◌≡◌, get_or};
 ghost use Rattle.accepted_facts.specs.Accepted.{Within};
 ghost use Rattle.accepted_facts.specs.Guarded.{Guarded};

@@ -1,4 +1,6 @@
 // Rows 9 to 12 of document 01's table, of the windows of a layout: each by itself here, pair by pair in `apart` (hv-s2's arm64.rs).
+#![tactic(auto)]
+
 ghost use Rattle.std.specs.Prelude.{◌≡◌};
 ghost use Rattle.layout.specs.Window.{windows_with};
 ghost use Rattle.refusal.specs.Outcome.{outcome_of};
