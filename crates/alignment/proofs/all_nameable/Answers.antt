@@ -1,0 +1,23 @@
+-- `all_nameable` meets its contract: the first row is that of the tables from i on.
+use Prim.Native.Nat.{◌-◌}
+use mathlib.Core.Bool.{false}
+use Rattle.layout.specs.Layout.{table_if}
+use Rattle.refusal.proofs.Loop.{refuses, passes, ends, each_walk}
+use Rattle.rows.specs.Rows.{row7}
+use native.Mathlib.Omega.{arith}
+use Rattle.alignment.proofs.all_nameable.Goals as goal
+
+pub returns-in_default : goal.returns-in_default
+returns-in_default c =
+    refuses (each_walk c.args.ts (table_if 0 false 0) (omega arith) (row7 c.args.limit)) c.loop-i.i c.loop-i.invariant
+    c.loop-i-test.true c.in_default.is c.nameable-verdict.ensures
+
+pub loop-i-preserved : goal.loop-i-preserved
+loop-i-preserved c =
+    passes (each_walk c.args.ts (table_if 0 false 0) (omega arith) (row7 c.args.limit)) c.loop-i.i c.loop-i.invariant
+    c.loop-i-test.true c.in-Accepted.is c.nameable-verdict.ensures
+
+pub returns : goal.returns
+returns c =
+    ends (each_walk c.args.ts (table_if 0 false 0) (omega arith) (row7 c.args.limit)) c.loop-i.i c.loop-i.invariant
+    c.loop-i-test.false

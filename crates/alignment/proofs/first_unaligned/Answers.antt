@@ -1,0 +1,22 @@
+-- `first_unaligned` meets its contract: the first row is that of the checks from i on.
+use Prim.Native.Nat.{◌-◌}
+use mathlib.Core.Bool.{false}
+use Rattle.layout.specs.Check.{check}
+use Rattle.refusal.proofs.Loop.{refuses, passes, ends, each_walk}
+use Rattle.rows.specs.Rows.{row6}
+use native.Mathlib.Omega.{arith}
+use Rattle.alignment.proofs.first_unaligned.Goals as goal
+
+pub returns-in_default : goal.returns-in_default
+returns-in_default c =
+    refuses (each_walk c.args.cs (check 0 false 0 0) (omega arith) row6) c.loop-i.i c.loop-i.invariant
+    c.loop-i-test.true c.in_default.is c.aligned-verdict.ensures
+
+pub loop-i-preserved : goal.loop-i-preserved
+loop-i-preserved c =
+    passes (each_walk c.args.cs (check 0 false 0 0) (omega arith) row6) c.loop-i.i c.loop-i.invariant
+    c.loop-i-test.true c.in-Accepted.is c.aligned-verdict.ensures
+
+pub returns : goal.returns
+returns c =
+    ends (each_walk c.args.cs (check 0 false 0 0) (omega arith) row6) c.loop-i.i c.loop-i.invariant c.loop-i-test.false

@@ -1,0 +1,30 @@
+-- `maps` meets its contract: lengths before bytes, base before super.
+use mathlib.Core.List.{flat_map}
+use mathlib.Core.Path.{◌∙◌, refl, sym}
+use Rattle.refusal.proofs.First.{next, stop, last}
+use Rattle.rows.specs.Rows.{map_rows}
+use Rattle.lent_rows.proofs.maps.Goals as goal
+
+pub returns-in_default : goal.returns-in_default
+unfolding map_rows flat_map
+returns-in_default c =
+    let v = c.map_lens-short in
+    let refused = c.enum_told-in_default-1.given in stop _ _ v.result refused.0.0 refl refused.1 v.ensures
+
+pub returns-in_default-codes : goal.returns-in_default-codes
+unfolding map_rows flat_map
+returns-in_default-codes c =
+    let w = c.map_lens-short in
+    let v = c.map_codes-codes in
+    let refused = c.enum_told-in_default-codes-1.given in
+    stop _ _ v.result refused.0.0 refl refused.1 v.ensures
+    ∙ sym (next _ _ w.result refl c.in-Accepted.is w.ensures)
+
+pub returns : goal.returns
+unfolding map_rows flat_map
+returns c =
+    let w = c.map_lens-short in
+    let v = c.map_codes-codes in
+    last _ c.map_codes.result refl c.map_codes.ensures
+    ∙ sym (next _ _ v.result refl c.in-Accepted-codes.is v.ensures)
+    ∙ sym (next _ _ w.result refl c.in-Accepted.is w.ensures)

@@ -1,0 +1,13 @@
+-- `all_reached` meets its contract: the first row is that of the windows from i on.
+use Prim.Native.Nat.{◌-◌}
+use mathlib.Core.Path.{◌≡◌}
+use lib.ListN.{length, drop}
+use Rattle.refusal.specs.Table.{first, each}
+use Rattle.rows.specs.Rows.{row10}
+use Rattle.windows.proofs.all_reached.Given as goal
+
+abbrev pub invariant-loop-i : goal.invariant-loop-i
+invariant-loop-i l = first (each (row10 l.limit) l.ws) ≡ first (each (row10 l.limit) (drop l.i l.ws))
+
+abbrev pub decreases-loop-i : goal.decreases-loop-i
+decreases-loop-i l = length l.ws - l.i
