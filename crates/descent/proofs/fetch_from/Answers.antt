@@ -14,7 +14,7 @@ returns-then-place-arena c =
     let a = c.args in
     let here =
     fetch_at (c.loop-t.t * entries) 0 a.tables.now c.loop-t.t (words_of a.arena.now) a.named a.index
-    (omega (arith, c.listed-1.given.0)) in
+    (omega arith) in
     sym (c.loop-t.invariant ∙ here ∙ simp (eq-eqb _ _ c.if-listed-t.true))
 
 pub returns-then-listed-t : goal.returns-then-listed-t
@@ -22,7 +22,7 @@ returns-then-listed-t c =
     let a = c.args in
     let here =
     fetch_at (c.loop-t.t * entries) 0 a.tables.now c.loop-t.t (words_of a.arena.now) a.named a.index
-    (omega (arith, c.listed-1.given.0)) in
+    (omega arith) in
     let zero = get_or-eq_default a.arena.now 0 c.if-place-arena.false in
     sym (c.loop-t.invariant ∙ here ∙ simp (eq-eqb _ _ c.if-listed-t.true, zero))
 
@@ -31,7 +31,7 @@ loop-t-preserved c =
     let a = c.args in
     let here =
     fetch_at (c.loop-t.t * entries) 0 a.tables.now c.loop-t.t (words_of a.arena.now) a.named a.index
-    (omega (arith, c.listed-1.given.0)) in
+    (omega arith) in
     let next : c.loop-t.t * entries + entries ≡ (c.loop-t.t + 1) * entries = omega arith in
     c.loop-t.invariant ∙ here ∙ simp (ne_eqb _ _ c.if-listed-t.false, next)
 
@@ -40,5 +40,5 @@ returns c =
     let a = c.args in
     let end =
     fetch_end (c.loop-t.t * entries) 0 a.tables.now c.loop-t.t (words_of a.arena.now) a.named a.index
-    (omega (arith, c.listed-1.given.0)) in
+    (omega arith) in
     sym (c.loop-t.invariant ∙ end)

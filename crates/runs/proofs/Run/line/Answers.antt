@@ -8,7 +8,7 @@ use Rattle.fields.specs.Ascii.{space, line_feed}
 use Rattle.runs.specs.Page.{run_line}
 use Rattle.text.specs.Digits.{digits}
 use Rattle.runs.proofs.Run.line.Goals as goal
-use Rattle.runs.proofs.Run.line.Goals.{After-spell, After-spell-2}
+use Rattle.runs.proofs.Run.line.Goals.{After-spell-2}
 
 -- the line with the digits of the first address, and then with those of the last
 abbrev with_first : List ℕ → List ℕ
@@ -31,15 +31,12 @@ line_with first last pa access execute =
     ++ execute
     ++ (line_feed ∷ [])
 
-first_line : (c : After-spell) → with_first c.spell.new.1.0 ≡ with_first (digits 10 c.args.self.first)
-first_line c = ap with_first c.spell.ensures
-
 last_line :
     (c : After-spell-2) →
-    with_last c.spell.new.1.0 c.spell-2.new.1.0
+    with_last c.spell.new.out c.spell-2.new.out
     ≡ with_last (digits 10 c.args.self.first) (digits 10 c.args.self.last)
 last_line c =
-    let room = ap (λ (l : List ℕ). digits (length (mid_of 11 10 l)) c.args.self.last) (first_line c) in
+    let room = ap (λ (l : List ℕ). digits (length (mid_of 11 10 l)) c.args.self.last) (ap with_first c.spell.ensures) in
     ap₂ with_last c.spell.ensures (c.spell-2.ensures ∙ room)
 
 pub returns : goal.returns
