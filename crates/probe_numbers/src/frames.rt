@@ -5,6 +5,7 @@ ghost use Rattle.probe_numbers.specs.Frames.{frame_row, owner_number, span_numbe
 use p2m::{Owner, TableSpan};
 
 // Up to three rows of owner and kind, how many there are, and the frame.
+#[tactic(auto, unfolding(crate::specs::Frames::frame_answer))]
 pub fn frame(x: &[u64; 8]) -> [u64; 8]
     ensures { result ≡ frame_answer x.now }
 {

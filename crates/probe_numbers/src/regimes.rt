@@ -17,6 +17,7 @@ enum RegimeNamed {
 }
 
 // The regime's parameters in the order of the struct, then the width of a VMID.
+#[tactic(auto, unfolding(crate::specs::Regimes::regime_answer))]
 pub fn stage2_regime(x: &[u64; 8]) -> [u64; 8]
     ensures { result ≡ regime_answer x.now }
 {
@@ -29,6 +30,7 @@ pub fn stage2_regime(x: &[u64; 8]) -> [u64; 8]
     numbers_of(r, b)
 }
 
+#[tactic(auto, unfolding(crate::specs::Regimes::numbers_of))]
 fn numbers_of(r: Stage2Regime, b: VmidBits) -> [u64; 8]
     ensures { result ≡ numbers_of r b }
 {
@@ -47,6 +49,7 @@ fn numbers_of(r: Stage2Regime, b: VmidBits) -> [u64; 8]
     ]
 }
 
+#[tactic(auto, unfolding(crate::specs::Regimes::regime_by_codes))]
 fn regime_named(x: &[u64; 8]) -> RegimeNamed
     ensures { result ≡ regime_by_codes x.now }
 {

@@ -24,6 +24,7 @@ pub fn apply(line: Line, numbers: &mut [u64], base: &mut [u8], sup: &mut [u8])
 }
 
 // Whether there is an image stands just before the image.
+#[tactic(auto, unfolding(crate::specs::Scene::with_field))]
 fn put_field(numbers: &mut [u64], field: usize, value: u64)
     ensures { numbers.new ≡ with_field numbers.old field value }
 {

@@ -68,6 +68,7 @@ pub fn decode_vtcr_el2(v: u64) -> DecodedVtcr
 }
 
 // The regime that the fields name, if none is reserved and it is valid.
+#[tactic(auto, unfolding(crate::specs::Vtcr::regime_named))]
 fn regime_named(fields: VtcrFields) -> DecodedVtcr
     requires { fields.t0sz < 64 }
     ensures { result ≡ regime_named fields }

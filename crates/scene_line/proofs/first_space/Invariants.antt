@@ -1,5 +1,5 @@
 -- `first_space` meets its contract: the first space is the first from i on.
-use Prim.Native.Nat.{◌+◌, ◌-◌, ◌≤◌}
+use Prim.Native.Nat.{◌+◌, ◌≤◌}
 use mathlib.Core.Path.{◌≡◌}
 use lib.ListN.{length, drop}
 use Rattle.scene_line.specs.Line.{first_space}

@@ -1,5 +1,5 @@
 -- `number_of` meets its contract: the number of all digits is n with_digit by those from i on.
-use Prim.Native.Nat.{◌-◌, ◌^◌, ◌<◌}
+use Prim.Native.Nat.{◌^◌, ◌<◌}
 use mathlib.Core.Path.{◌≡◌}
 use lib.ListN.{drop}
 use Rattle.scene_line.specs.Line.{with_digits}
