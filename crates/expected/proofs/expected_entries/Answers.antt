@@ -1,5 +1,5 @@
 -- `expected_entries` meets its contract: the edges from i on are still to be noted.
-use Prim.Native.Nat.{◌<◌, ◌≤◌, ◌-◌}
+use Prim.Native.Nat.{◌<◌, ◌≤◌}
 use mathlib.Core.List.{[]}
 use mathlib.Core.Path.{◌∙◌, sym, ap}
 use native.Mathlib.Omega.{arith}
@@ -17,19 +17,17 @@ loop-i-init c =
 
 pub loop-i-preserved : goal.loop-i-preserved
 loop-i-preserved c =
-    let in-loop = c in
-    let h = in-loop.before in
-    let a = h.before.before.args in
+    let a = c.args in
     let rows = a.edges.now in
-    let i = h.loop.i in
-    let within : i < length (edges_of rows) = rw (length-map rows edge_of) in-loop.loop-test.true in
+    let i = c.loop-i.i in
+    let within : i < length (edges_of rows) = rw (length-map rows edge_of) c.loop-i-test.true in
     let read = c.of.ensures ∙ sym (get_or-map edge_of rows i []) in (
-      c.note.auto.0 ∙ h.loop.invariant.0,
-      one_noted a.frames.now a.dom a.span (edges_of rows) i h.loop.wanted c.note.new.0 (edge_of []) within
-          h.loop.invariant.1
+      c.note.auto.wanted ∙ c.loop-i.invariant.0,
+      one_noted a.frames.now a.dom a.span (edges_of rows) i c.loop-i.wanted c.note.new.wanted (edge_of []) within
+          c.loop-i.invariant.1
           (λ m inside.
-          let fits : m < length h.loop.wanted = omega (arith, inside, h.loop.invariant.0) in
-          c.note.ensures m fits ∙ ap (after_edge a.frames.now a.dom a.span m (get_or h.loop.wanted m 0)) read),
+          let fits : m < length c.loop-i.wanted = omega (arith, inside, c.loop-i.invariant.0) in
+          c.note.ensures m fits ∙ ap (after_edge a.frames.now a.dom a.span m (get_or c.loop-i.wanted m 0)) read),
     )
 
 pub returns : goal.returns

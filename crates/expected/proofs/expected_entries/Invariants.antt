@@ -1,5 +1,4 @@
 -- `expected_entries` meets its contract: the edges from i on are still to be noted.
-use Prim.Native.Nat.{◌-◌}
 use mathlib.Core.Path.{◌≡◌}
 use lib.ListN.{length}
 use Rattle.edge.specs.Edge.{edges_of}

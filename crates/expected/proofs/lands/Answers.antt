@@ -16,7 +16,7 @@ returns-then-not-counts c = let v = c.counts in rw (sym v.ensures ∙ c.if-not-c
 pub returns-in-Leaves : goal.returns-in-Leaves
 unfolding lands
 returns-in-Leaves c =
-    rw (counted (goal.at.returns-in-Leaves c).Else-not-counts, sym c.span_of_table.ensures ∙ c.found-1.given.1, c.code.ensures, c.code-in-Leaves.ensures)
+    rw (counted (goal.at.returns-in-Leaves c).Else-not-counts, sym c.span_of_table.ensures ∙ c.in-Leaves.is, c.code.ensures, c.code-in-Leaves.ensures)
 
 pub returns-in-Unsupported : goal.returns-in-Unsupported
 unfolding lands
