@@ -1,5 +1,5 @@
 -- `validate_at` meets its contract: an accepting row is passed over, a refusing one decides.
-use Prim.Native.Nat.{ℕ, ◌<◌}
+use Prim.Native.Nat.{ℕ}
 use mathlib.Core.Bool.{false}
 use lib.Dec.{leb}
 use mathlib.Core.List.{List, [], ◌∷◌, flat_map}
@@ -11,7 +11,7 @@ use Rattle.layout.specs.Layout.{tables_of}
 use Rattle.layout.specs.Size.{page, uncountable}
 use Rattle.layout.specs.Window.{super_counted, devices_of, windows_with, windows_of}
 use Rattle.layout.specs.declared.Layout.{Layout}
-use Rattle.layout.specs.declared.SuperWindow.TheVariants.{Counted, Uncountable}
+use Rattle.layout.specs.declared.SuperWindow.TheVariants.{Uncountable}
 use Rattle.refusal.proofs.First.{next, stop, last}
 use Rattle.refusal.specs.Outcome.{outcome_of}
 use Rattle.refusal.specs.declared.Verdict.{Verdict}
@@ -68,8 +68,8 @@ module _ (limit : ℕ) (l : Layout) where
 pub returns-in_default : goal.returns-in_default
 unfolding refusals_at flat_map
 returns-in_default c =
-    stop _ _ c.all_whole-whole.result c.in_default.field-0 refl c.in_default.is
-    (cc)
+    let e : outcome_of c.all_whole-whole.result ≡ first (each row4 (devices_of c.args.l)) = cc in
+    stop _ _ c.all_whole-whole.result c.in_default.field-0 refl c.in_default.is e
 
 pub returns-then-l-ne-PAGE_SIZE : goal.returns-then-l-ne-PAGE_SIZE
 unfolding row5 first flat_map
