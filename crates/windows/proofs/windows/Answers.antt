@@ -24,6 +24,6 @@ unfolding window_rows flat_map
 returns c =
     let w = c.all_inside-inside in
     let v = c.all_reached-reached in
-    last _ c.All-apart.result refl c.All-apart.ensures
+    last _ c.all_apart.result refl c.all_apart.ensures
     ∙ sym (next _ _ v.result refl c.in-Accepted-reached.is v.ensures)
     ∙ sym (next _ _ w.result refl c.in-Accepted.is w.ensures)
