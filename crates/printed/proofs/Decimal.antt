@@ -1,5 +1,5 @@
 -- A number's digits, from the last one on.
-use Rattle.std.specs.Prelude.{ℕ, zero, suc, ◌+◌, ◌/◌, ◌%◌, ◌<◌, ◌≤◌, Bool, true, false, List, [], ◌∷◌, ◌++◌, ◌≡◌, eqb, ltb, length, drop, refl}
+use Rattle.std.specs.Prelude.{ℕ, suc, ◌+◌, ◌/◌, ◌%◌, ◌<◌, ◌≤◌, Bool, true, false, List, [], ◌∷◌, ◌++◌, ◌≡◌, eqb, ltb, length, drop, refl}
 use Rattle.std.proofs.Common.{arith, sym, ◌∙◌, ap, set}
 use Rattle.std.proofs.lemmas.Bool.{eqb-true, eqb-false, lt-ltb, le-ltb}
 use Rattle.std.proofs.lemmas.List.{append_assoc, drop-set}
@@ -34,7 +34,7 @@ one_more text at k rest d out above some room is e = go (eqb rest 0) refl
     go false f =
         let one : k + 1 ≡ at = omega (arith, above) in
         let digits : front at rest ≡ front k (rest / 10) ++ (d ∷ []) =
-            ap (λ b. pick b [] (decimal at rest)) f ∙ ap (λ n. decimal n rest) above ∙ last_of k rest ∙ ap (λ x. front k (rest / 10) ++ (x ∷ [])) (sym is) in
+        ap (λ b. pick b [] (decimal at rest)) f ∙ ap (λ n. decimal n rest) above ∙ last_of k rest ∙ ap (λ x. front k (rest / 10) ++ (x ∷ [])) (sym is) in
         let written : drop k (set out k d) ≡ d ∷ drop at out = drop-set out k d room ∙ ap (λ n. d ∷ drop n out) one in
         e ∙ ap (λ xs. xs ++ drop at out) digits ∙ append_assoc (front k (rest / 10)) (d ∷ []) (drop at out)
         ∙ ap (λ xs. front k (rest / 10) ++ xs) (sym written)

@@ -1,4 +1,4 @@
-use Rattle.std.proofs.Common.{arith, length, ℕ, ◌+◌, ◌-◌, ◌/◌, ◌%◌, ◌≤◌, ◌<◌, ◌≡◌, [], ◌∷◌, ◌++◌, drop, slice_set, sym, ap, ◌∙◌, suc, length-set}
+use Rattle.std.proofs.Common.{arith, length, ◌+◌, ◌-◌, ◌/◌, ◌%◌, ◌<◌, ◌≡◌, [], ◌∷◌, ◌++◌, drop, slice_set, sym, ap, ◌∙◌, length-set}
 use Rattle.std.proofs.lemmas.List.{drop-set, drop_all}
 use Rattle.printed.specs.Line.{decimal}
 use Rattle.printed.proofs.Decimal.{front, last_of, one_more, no_more, no_room}
@@ -21,8 +21,8 @@ loop-at-preserved c =
       omega (arith, inv.0),
       length-set c.loop-at.out (at - 1) c.last_digit-in-loop-at.result ∙ inv.1,
       one_more (decimal 20 c.args.number) at (at - 1) c.loop-at.rest c.last_digit-in-loop-at.result c.loop-at.out (omega (arith, c.loop-at-test.true))
-      c.if-rest-ne0.true
-      room c.last_digit-in-loop-at.ensures inv.2,
+          c.if-rest-ne0.true
+          room c.last_digit-in-loop-at.ensures inv.2,
     )
 
 pub returns-else-rest-ne0-clause-digits : goal.returns-else-rest-ne0-clause-digits
