@@ -74,6 +74,7 @@ fn said_after(letter: u8, text: &[u8]) -> Line
 }
 
 // What a letter says of two numbers.
+#[tactic(auto, unfolding(crate::specs::Line::said))]
 fn said(letter: u8, a: u64, b: u64) -> Line
     ensures { result ≡ said letter a b }
 {
@@ -102,6 +103,7 @@ fn said(letter: u8, a: u64, b: u64) -> Line
 }
 
 // The same of the letter L.
+#[tactic(auto, unfolding(crate::specs::Line::said))]
 fn field(n: u64, value: u64) -> Line
     ensures { result ≡ said letter_l n value }
 {
@@ -135,6 +137,7 @@ fn first_space(text: &[u8]) -> usize
 }
 
 // At most 16 digits, so that every number fits.
+#[tactic(auto, unfolding(crate::specs::Line::number_of))]
 fn number_of(text: &[u8]) -> Number
     ensures { result ≡ number_of text.now }
 {
@@ -154,6 +157,7 @@ fn number_of(text: &[u8]) -> Number
     Number::Value(n)
 }
 
+#[tactic(auto, unfolding(crate::specs::Line::digit_of))]
 fn digit(c: u8) -> Number
     ensures { result ≡ digit_of c }
 {

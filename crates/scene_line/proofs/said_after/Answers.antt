@@ -1,0 +1,53 @@
+-- The first space parts the two numbers.
+use Rattle.std.proofs.Common.{arith, ℕ, ◌+◌, ◌-◌, ◌≤◌, ◌≡◌, List, [], refl, sym, ap, ap₂, ◌∙◌, length, take, drop}
+use Rattle.std.proofs.Math.ListN.{drop_of_length-le}
+use Rattle.scene_line.specs.Line.{number_of, first_space, before_space, after_space, said_by, said_after}
+use Rattle.scene_line.specs.declared.Line.TheVariants.{Bad}
+use Rattle.scene_line.specs.declared.Number.{Number}
+use Rattle.scene_line.specs.declared.Number.TheVariants.{Value, NoNumber}
+use Rattle.scene_line.proofs.Part.{to_end}
+use Rattle.scene_line.proofs.said_after.Goals as goal
+
+no_second : (letter : ℕ) (a b : Number) → b ≡ NoNumber → said_by letter a b ≡ Bad
+no_second letter (Value n) b none = ap (said_by letter (Value n)) none
+no_second letter NoNumber b none = refl
+
+nothing : number_of [] ≡ NoNumber
+unfolding number_of
+nothing = refl
+
+-- the text of the second number
+rest : (text : List ℕ) (end : ℕ) → end ≡ first_space text → take (length text - (end + 1)) (drop (end + 1) text) ≡ after_space text
+rest text end e = to_end text (end + 1) ∙ ap (λ k. drop (k + 1) text) e
+
+pub returns-then-text-end : goal.returns-then-text-end
+unfolding said_after
+returns-then-text-end c =
+    let text = c.args.text.now in
+    let past : length text ≤ first_space text + 1 = omega (arith, c.if-text-end.true, c.first_space-end.ensures) in
+    let none = ap number_of (drop_of_length-le text past) ∙ nothing in
+    sym (no_second c.args.letter (number_of (before_space text)) _ none)
+
+pub returns-in_default : goal.returns-in_default
+unfolding said_after
+returns-in_default c =
+    let text = c.args.text.now in
+    let first : NoNumber ≡ number_of (before_space text) = c.in_default.ensures ∙ ap (λ k. number_of (take k text)) c.first_space-end.ensures in
+    sym (ap (λ x. said_by c.args.letter x (number_of (after_space text))) (sym first))
+
+pub returns-in_default-number_of : goal.returns-in_default-number_of
+unfolding said_after
+returns-in_default-number_of c =
+    let text = c.args.text.now in
+    let second : NoNumber ≡ number_of (after_space text) =
+    c.in_default-number_of.ensures ∙ ap number_of (rest text c.first_space-end.result c.first_space-end.ensures) in
+    sym (no_second c.args.letter (number_of (before_space text)) _ (sym second))
+
+pub returns : goal.returns
+unfolding said_after
+returns c =
+    let text = c.args.text.now in
+    let first : Value c.in-Value.a ≡ number_of (before_space text) = c.in-Value.ensures ∙ ap (λ k. number_of (take k text)) c.first_space-end.ensures in
+    let second : Value c.in-Value-number_of.b ≡ number_of (after_space text) =
+    c.in-Value-number_of.ensures ∙ ap number_of (rest text c.first_space-end.result c.first_space-end.ensures) in
+    c.said.ensures ∙ ap₂ (said_by c.args.letter) first second
