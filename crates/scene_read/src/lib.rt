@@ -1,9 +1,9 @@
 // Reads a scene from a reader, such as the program's input, piece by piece.
 #![tactic(auto)]
 
-ghost use Rattle.std.specs.Prelude.{IfOk};
+ghost use Rattle.std.specs.Prelude.{IfOk, OnErr};
 ghost use Rattle.scene.specs.Scene.{scene};
-ghost use Rattle.scene_read.specs.Input.{ReadsText};
+ghost use Rattle.scene_read.specs.Input.{ReadsText, LeavesText};
 
 use scene_text::Taken;
 use std::io;
@@ -16,14 +16,14 @@ pub fn read_scene<R: Read>(
     base: &mut [u8],
     sup: &mut [u8],
 ) -> io::Result<bool>
-    ensures { IfOk result (λ said. ReadsText (R.remaining input.old)
-        (scene numbers.old base.old sup.old) said (scene numbers.new base.new sup.new)) }
+    ensures ok { IfOk result (λ said. ReadsText (R.remaining input.old) (scene numbers.old base.old sup.old) said (scene numbers.new base.new sup.new)) }
+    ensures err { OnErr result (LeavesText (R.remaining input.old) (scene numbers.old base.old sup.old) (scene numbers.new base.new sup.new)) }
 {
     let mut piece = [0; 4096];
     let mut line = [0; scene_text::LINE];
     let mut len = 0;
     // A proved loop has to end: no input has so many pieces.
-    for _ in 0..u64::MAX {
+    for _piece in 0..u64::MAX {
         let n = input.read(&mut piece)?;
         if n == 0 {
             break;
