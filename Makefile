@@ -4,8 +4,6 @@ export HV_SRC ?= ../shared/docs/src
 # What the random inputs of make diff are drawn from.
 SEED ?= 1
 
-export TMPDIR := $(shell tools/scratch.sh)
-
 JUDGE = cargo run --quiet --release --offline --manifest-path oracle/Cargo.toml -p judge --
 TIMED = cargo run --quiet --profile timed --offline --manifest-path oracle/Cargo.toml -p judge --
 
@@ -16,7 +14,7 @@ TIMED = cargo run --quiet --profile timed --offline --manifest-path oracle/Cargo
 
 # Proves programs and what they need, and builds them. What is proved is told on standard error, here and below: a target's own lines stand
 # alone.
-PROVE = tools/progress.sh target/programs.log rt check
+PROVE = tools/progress.sh target/programs.log tools/program.sh
 
 run: ## 4 min ## proves the program and what it needs, builds it and runs it on scene S
 	@echo "proving $$(awk -v crate=s2dump -f tools/needed.awk crates.txt) crates, s2dump and what it needs:" \
@@ -24,12 +22,10 @@ run: ## 4 min ## proves the program and what it needs, builds it and runs it on 
 	@$(PROVE) s2dump >&2
 	@target/bin/s2dump <scenes/S.txt
 
-# rt ci begins by removing target/: run first, what it proved serves the rest. Its verdict comes last. It waits for each batch of jobs to
-# end: with four on two cores, none idles while the longest of a batch goes on.
-test: ## 25 min ## the gate: every proof and edit from nothing, then compare, arm-short, board, scenes, header and pages; its last line is rt's
-	@rt fmt --check
+# rt ci first: what it proved serves the rest. Its verdict comes last.
+test: ## 25 min ## the gate: rt ci, of every proof, edit, test and program, then compare, arm-short, board, scenes, header and pages; its last line is rt's
 	@echo "rt ci: $$(awk -f tools/needed.awk crates.txt) crates to prove, $$(ls crates/*/must-fail/*.edit | wc -l) edits to be refused"
-	@RT_JOBS=$${RT_JOBS:-4} tools/progress.sh target/ci.log rt ci
+	@tools/ci.sh
 	@$(MAKE) --no-print-directory --jobs=3 --output-sync compare arm-short board scenes header pages
 	@tail -n 2 target/ci.log
 
@@ -38,7 +34,7 @@ help: ## 0 s ## lists the targets
 	@echo "About, on two cores (-: not measured); run and test from nothing, the others where the crates are proved, which takes up to 6 min first."
 
 fmt: ## 2 s ## lays out every file
-	@rt fmt
+	@for crate in crates/*/; do (cd $$crate && rt fmt) || exit 1; done
 	@cargo fmt --all --manifest-path oracle/Cargo.toml
 	@cargo fmt --all --manifest-path board/dervhalt-s2/Cargo.toml
 
@@ -140,8 +136,8 @@ programs:
 
 # What the comparison links beside it, and the programs that it runs.
 libraries: library programs
-	@tools/progress.sh target/probe_windows.log rt staticlib probe_windows >&2
-	@tools/progress.sh target/probe.log tools/module.sh probe >&2
+	@tools/progress.sh target/probe_windows.log tools/module.sh probe_windows >&2
+	@tools/progress.sh target/probe.log tools/module.sh probe_c probe >&2
 
 # What the Arm judge alone links.
 judge-library: libraries

@@ -1,15 +1,13 @@
 # Prints, for the files of definitions that are named, all files that their meaning rests on, with their lines: what a reader must believe.
 # A type that is declared in code is named with its crate.
 
-# crates/CRATE/specs/FILE.antt of an imported module, or the declared type
-function visit(module, parts, crate, file) {
-    sub(/^Rattle·/, "", module)
-    sub(/\.\{.*/, "", module)
+# crates/CRATE/specs/FILE.antt of an imported module, or the declared type; the library's own are not listed
+function visit(module, parts, crate) {
     split(module, parts, ".")
-    crate = parts[1]
-    sub(/·specs$/, "", crate)
-    if (parts[3] == "declared") declared[crate, parts[4]] = 1
-    else file_of("crates/" crate "/specs/" parts[3] ".antt")
+    crate = parts[2]
+    if (crate == "std") return
+    if (parts[4] == "declared") declared[crate, parts[5]] = 1
+    else file_of("crates/" crate "/specs/" parts[4] ".antt")
 }
 
 function file_of(file, line, words, count) {
@@ -17,7 +15,7 @@ function file_of(file, line, words, count) {
     lines[file] = 0
     while ((getline line <file) > 0) {
         count++
-        if (split(line, words, " ") > 1 && words[1] == "use" && words[2] ~ /^Rattle·/) pending[++last] = words[2]
+        if (split(line, words, " ") > 1 && words[1] == "use" && words[2] ~ /^Rattle\./) pending[++last] = words[2]
     }
     close(file)
     if (!count) { print file " is not there" >"/dev/stderr"; exit 1 }

@@ -4,7 +4,7 @@
 # all that stands in a file, or in a crate
 function text_of(path, command, line) {
     if (path in text) return text[path]
-    command = "cat " path " 2>/dev/null || find " path " -name '*.rt' -o -name '*.antt' | xargs cat"
+    command = "cat " path " 2>/dev/null || find " path " -path '*/out' -prune -o -name '*.rt' -print -o -name '*.antt' -print | xargs cat"
     text[path] = "\n"
     while ((command | getline line) > 0) text[path] = text[path] line "\n"
     close(command)

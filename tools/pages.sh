@@ -18,10 +18,11 @@ grep -ohP '(?<![/.])\b(crates|oracle|arm|board|sabotage|tools|scenes|docs|includ
         [ -e "$path" ] || { echo "no $path, which a page names"; exit 1; }
     done
 
-# A theorem, field or seeded fault that a page names, by its hyphen, has that name.
-grep -ohP '`\K[a-z]+(-[A-Za-z0-9]+)+(?=`)' README.md $docs | sort -u | grep -vx -e qemu-aarch64 -e rust-version |
+# A theorem, definition, field or seeded fault that a page names has that name, where it is of several words; these are others' names.
+others="qemu-aarch64 rust-version check_all frame_addr frame_ipa frame_pa row_26 super_ipa super_pa super_size"
+grep -ohP '`\K[a-z]+([-_][A-Za-z0-9]+)+(?=`)' README.md $docs | sort -u | grep -vxF "$(printf '%s\n' $others)" |
     while read -r name; do
-        grep -rqF --exclude-dir=target -- "$name" crates oracle arm board/dervhalt-s2/Cargo.toml board/dervhalt-s2/src || { echo "nothing is called $name, which a page names"; exit 1; }
+        grep -rqF --exclude-dir=target --exclude-dir=out -- "$name" crates oracle arm board/dervhalt-s2/Cargo.toml board/dervhalt-s2/src || { echo "nothing is called $name, which a page names"; exit 1; }
     done
 
 # A name that a path stands behind is there.
@@ -29,7 +30,7 @@ awk -f tools/named.awk $pages
 
 # The layers have each crate, and no other.
 layers=$(grep '^|' crates/README.md | grep -o '`[a-z0-9_]*`' | tr -d '\`' | sort)
-[ "$(sed -n 's/^\([a-z0-9_]*\):.*/\1/p' crates.txt | sort)" = "$layers" ] || { echo "crates/README.md has other crates than crates.txt"; exit 1; }
+[ "$(sed -nE 's/^([a-z0-9_]+)( staticlib)?:.*/\1/p' crates.txt | sort)" = "$layers" ] || { echo "crates/README.md has other crates than crates.txt"; exit 1; }
 
 believed() {
     awk -f tools/believed.awk "$@" | tail -1
@@ -55,7 +56,7 @@ listed=$(subjects | cut -d ' ' -f 2- | tr ' ' '\n' | sort)
 # No array is written in the code of verification (M-101): each bracket is of a lent slice or of an index into one, and of `areas` it asks
 # for one area at a time.
 verification() {
-    cat crates/verify*/src/*.rt | grep -vE '^ *//|ghost use|⌜'
+    cat crates/verify*/src/*.rt | awk '/^ *(requires|ensures) / { clause = 1 } /^ *\{$/ { clause = 0 } !clause' | grep -vE '^ *//|ghost use|^#'
 }
 if verification | sed -E 's/&\[(u64|u8)\]//g; s/\b(arena|base|sup)\[//g' | grep -F '['; then
     echo "verification has an array"
@@ -91,7 +92,7 @@ counted=$(grep '^|' docs/SABOTAGE.md | grep -oP '`[a-z0-9_]+` [0-9]+(?=,| \|)' |
 says docs/SABOTAGE.md "There are $(ls crates/*/must-fail/*.edit | wc -l), in $(ls -d crates/*/must-fail | wc -l) crates"
 
 definitions=$(grep -l '^file: specs' crates/*/must-fail/*.edit | wc -l)
-contracts=$(grep -l '^file: src' crates/*/must-fail/*.edit | xargs grep -lE '^old: .*(≡|∷|\.entry|\.exit|λ m|Vtcr\.Value)' | wc -l)
+contracts=$(grep -l '^file: src' crates/*/must-fail/*.edit | xargs grep -lE '^old: .*(≡|∷|\.old|\.new|\.now|\.entry|λ m|Vtcr\.Value)' | wc -l)
 code=$(($(ls crates/*/must-fail/*.edit | wc -l) - definitions - contracts))
 says docs/SABOTAGE.md "$definitions alter a definition or a statement, $contracts a contract and $code code"
 
@@ -119,7 +120,7 @@ says board/README.md "VTCR_EL2 is $(echo "$vtcr" | tr -d _) "
 
 # Each exported call has a contract, over `values` at exit; the step assigns to the arena once.
 described=$(awk '/^(pub )?(extern "C" )?fn / { call = clause = 0 } /^pub extern "C" fn/ { calls++; call = 1 } /ensures/ && call { clause = 1 }
-    clause && /values \.exit/ { said++; call = clause = 0 } /^{/ { call = clause = 0 }
+    clause && /values\.new/ { said++; call = clause = 0 } /^{/ { call = clause = 0 }
     END { if (calls == said) print calls " and " said }' crates/s2/src/lib.rt)
 [ -n "$described" ] || { echo "an exported call is not described"; exit 1; }
 says docs/SABOTAGE.md "$described"

@@ -1,37 +1,52 @@
--- The fewest decimal digits of a number are its digits one after the other.
-use Prim.Native.Nat.{ℕ, zero, suc, ◌+◌, ◌-◌, ◌/◌, ◌%◌, ◌^◌, ◌≤◌, ◌<◌}
-use mathlib.Core.Bool.{Bool, true, false}
-use mathlib.Core.List.{[], ◌∷◌, ◌++◌}
-use mathlib.Core.Path.{◌≡◌, refl, ap}
-use native.Mathlib.Nat.{pow-suc, one-le-pow, div-lt_iff_lt-mul, le-div_iff_mul-le, pow-le-pow_right}
-use native.Mathlib.Numerals.{sub-one}
-use native.Mathlib.Omega.{arith}
-use lib.Dec.{leb}
-use borrow.Author.Tests.{lt-ltb, le-ltb, leb-true, leb-false}
-use Rattle.io.specs.Digits.{last_digits, IsDigitCount}
+-- A number's digits, from the last one on.
+use Rattle.std.specs.Prelude.{ℕ, suc, ◌+◌, ◌/◌, ◌%◌, ◌<◌, ◌≤◌, Bool, true, false, List, [], ◌∷◌, ◌++◌, ◌≡◌, eqb, ltb, length, drop, refl}
+use Rattle.std.proofs.Common.{arith, sym, ◌∙◌, ap, set}
+use Rattle.std.proofs.lemmas.Bool.{eqb-true, eqb-false, lt-ltb, le-ltb}
+use Rattle.std.proofs.lemmas.List.{append_assoc, drop-set}
+use Rattle.fields.specs.Named.{pick}
 use Rattle.printed.specs.Line.{decimal}
 
-pub fewest : (most k n : ℕ) → k ≤ most → IsDigitCount 10 1 n k → last_digits 10 k n ≡ decimal most n
-unfolding decimal
-fewest most zero n few f = absurd (omega (arith, f.0))
-fewest zero (suc k) n few f = absurd (omega (arith, few))
-fewest (suc most) (suc zero) n few f =
-    let small : n < 10 = omega (arith, f.1) in rw (lt-ltb n 10 small, lt-ltb (n % 10) 10 (omega arith))
-fewest (suc most) (suc (suc k)) n few f =
-    let least : 10 ^ suc k ≤ n = simp sub-one at (f.2 (omega arith)) in
-    let large : 10 ≤ n = omega (arith, one-le-pow k 10 (omega arith), least, pow-suc 10 k) in
-    let fits : n / 10 < 10 ^ suc k = (div-lt_iff_lt-mul {k = 10} (omega arith)).1 (rw pow-suc at f.1) in
-    let none-spare : 10 ^ (suc k - 1) ≤ n / 10 = (le-div_iff_mul-le {k = 10} (omega arith)).1 (rw sub-one (rw pow-suc at least)) in
-    rw (le-ltb n 10 large, lt-ltb (n % 10) 10 (omega arith))
-    (ap (λ ds. ds ++ ((48 + n % 10) ∷ [])) (fewest most (suc k) (n / 10) (omega (arith, few)) (omega arith, fits, λ h. none-spare)))
+-- the digits before those that are written, if there are any
+abbrev pub front : ℕ → ℕ → List ℕ
+front k rest = pick (eqb rest 0) [] (decimal k rest)
 
--- a number of 64 bits has at most 20
-pub few : (n k : ℕ) → n < 2 ^ 64 → IsDigitCount 10 1 n k → k ≤ 20
-few n k small f = go (leb k 20) refl
+-- one digit, and those before it
+pub last_of : (k n : ℕ) → decimal (suc k) n ≡ front k (n / 10) ++ ((48 + n % 10) ∷ [])
+unfolding decimal
+last_of k n = go (eqb (n / 10) 0) refl
   where
-    go : (b : Bool) → leb k 20 ≡ b → k ≤ 20
-    go true e = leb-true k 20 e
+    go : (b : Bool) → eqb (n / 10) 0 ≡ b → pick (ltb n 10) [] (decimal k (n / 10)) ++ ((48 + n % 10) ∷ []) ≡ pick b [] (decimal k (n / 10)) ++ ((48 + n % 10) ∷ [])
+    go true e = let small : n < 10 = omega (arith, eqb-true (n / 10) 0 e) in rw (lt-ltb n 10 small) refl
     go false e =
-        let more = leb-false k 20 e in
-        let power : 10 ^ 20 ≤ 10 ^ (k - 1) = pow-le-pow_right {n = 10} (omega arith) {i = 20} {j = k - 1} (omega arith) in
-        absurd (omega (arith, small, power, f.2 (omega arith)))
+        let some = eqb-false (n / 10) 0 e in
+        let large : 10 ≤ n = omega (arith, some) in
+        rw (le-ltb n 10 large) refl
+
+-- one more digit is written, before the place at
+pub one_more :
+    (text : List ℕ) (at k rest d : ℕ) (out : List ℕ) →
+    at ≡ suc k → (rest ≡ 0 → ⊥) → k < length out → d ≡ 48 + rest % 10 →
+    text ≡ front at rest ++ drop at out → text ≡ front k (rest / 10) ++ drop k (set out k d)
+one_more text at k rest d out above some room is e = go (eqb rest 0) refl
+  where
+    go : (b : Bool) → eqb rest 0 ≡ b → text ≡ front k (rest / 10) ++ drop k (set out k d)
+    go true t = absurd (some (eqb-true rest 0 t))
+    go false f =
+        let one : k + 1 ≡ at = omega (arith, above) in
+        let digits : front at rest ≡ front k (rest / 10) ++ (d ∷ []) =
+        ap (λ b. pick b [] (decimal at rest)) f ∙ ap (λ n. decimal n rest) above ∙ last_of k rest ∙ ap (λ x. front k (rest / 10) ++ (x ∷ [])) (sym is) in
+        let written : drop k (set out k d) ≡ d ∷ drop at out = drop-set out k d room ∙ ap (λ n. d ∷ drop n out) one in
+        e ∙ ap (λ xs. xs ++ drop at out) digits ∙ append_assoc (front k (rest / 10)) (d ∷ []) (drop at out)
+        ∙ ap (λ xs. front k (rest / 10) ++ xs) (sym written)
+
+-- none is left
+pub no_more : (k rest : ℕ) → rest ≡ 0 → front k rest ≡ []
+no_more k rest e = rw e refl
+
+pub no_room : (rest : ℕ) → front 0 rest ≡ []
+unfolding decimal
+no_room rest = go (eqb rest 0)
+  where
+    go : (b : Bool) → pick {A = List ℕ} b [] [] ≡ []
+    go true = refl
+    go false = refl

@@ -1,11 +1,7 @@
 -- A text lies in the front of its buffer, and the line of a row is no longer than the longest.
-use Prim.Native.Nat.{ℕ, zero, suc, ◌+◌, ◌/◌, ◌%◌, ◌≤◌}
-use mathlib.Core.Bool.{Bool, true, false}
-use mathlib.Core.List.{List, [], ◌∷◌}
-use mathlib.Core.Path.{ap}
-use native.Mathlib.Omega.{arith}
-use lib.Dec.{ltb}
-use lib.ListN.{length, drop, length-append}
+use Rattle.std.specs.Prelude.{ℕ, zero, suc, ◌+◌, ◌/◌, ◌%◌, ◌≤◌, Bool, true, false, List, [], ◌∷◌, ltb, length, drop}
+use Rattle.std.proofs.Common.{arith, ap}
+use Rattle.std.proofs.lemmas.List.{length-append}
 use Rattle.fields.specs.Ascii.{line_feed}
 use Rattle.fields.specs.Named.{pick}
 use Rattle.printed.specs.Line.{decimal, refused_line, longest, Puts}

@@ -1,9 +1,9 @@
 // The lines that the dump prints (document 01, "Proved and printed").
 #![tactic(auto)]
 
-ghost use Rattle.std.specs.Prelude.{◌+◌, ◌≤◌, ◌≡◌, length};
+ghost use Rattle.std.specs.Prelude.{◌+◌, ◌%◌, ◌≤◌, ◌≡◌, length, drop};
 ghost use Rattle.std.proofs.Math.Seq.{paste};
-ghost use Rattle.printed.specs.Line.{bad_line, refused_line, longest, Puts};
+ghost use Rattle.printed.specs.Line.{bad_line, refused_line, decimal, longest, Puts};
 ghost use Rattle.printed.specs.Word.{word_line};
 
 // The longest line: REFUSED, a space, 20 digits and a line feed.
@@ -28,10 +28,32 @@ fn put_refused(number: u64, out: &mut [u8]) -> usize
     ensures { Puts (refused_line number) out.old result out.new }
 {
     let mut digits = [0; 20];
-    let count = io::decimal(number, &mut digits);
+    let first = spell_decimal(number, &mut digits);
     let from = put(b"REFUSED ", out, 0);
-    let end = put(&digits[..count], out, from);
+    let end = put(&digits[first..], out, from);
     put(b"\n", out, end)
+}
+
+// A number's decimal digits, at the end of the buffer; returns the index of the first.
+fn spell_decimal(number: u64, out: &mut [u8; 20]) -> usize
+    ensures within { result ≤ 20 }
+    ensures digits { drop result out.new ≡ decimal 20 number }
+{
+    let mut at = 19;
+    out[at] = last_digit(number);
+    let mut rest = number / 10;
+    while 0 < at && rest != 0 {
+        at -= 1;
+        out[at] = last_digit(rest);
+        rest /= 10;
+    }
+    at
+}
+
+fn last_digit(number: u64) -> u8
+    ensures { result ≡ 0x30 + number % 10 }
+{
+    b'0' + (number % 10) as u8
 }
 
 // A text from an index of the buffer on; returns the index after it.

@@ -1,5 +1,5 @@
-// Every function of the lower layers by a number, with eight numbers in and eight out: what the comparison with the Rust links, and
-// what the replay of its recorded answers calls. Nothing else uses it.
+// Every function of the lower layers by a number, with eight numbers in and eight out: what the comparison with the Rust links, by
+// probe_c, and what the replay of its recorded answers calls. Nothing else uses it.
 #![tactic(auto)]
 
 ghost use Rattle.std.specs.Prelude.{◌≡◌};
@@ -33,11 +33,4 @@ pub fn answer(op: u32, x: &[u64; 8]) -> [u64; 8]
         18 => registers::vttbr_parts(x[0]),
         _ => [0; 8],
     }
-}
-
-#[unsafe(no_mangle)]
-pub extern "C" fn probe(op: u32, x: &[u64; 8], out: &mut [u64; 8])
-    ensures { out.new ≡ answer_of op x.now }
-{
-    *out = answer(op, x);
 }

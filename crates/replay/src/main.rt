@@ -3,29 +3,33 @@
 #![tactic(auto)]
 
 use replay_lines::Read;
+use std::io;
+use std::io::{BufReader, BufWriter, Write};
 
 // More lines than any recording has: a proved loop has to end.
 const LINES: u32 = 1_000_000;
 
-fn main() {
-    let mut left = LINES;
-    while left > 0 && replay_line() {
-        left -= 1;
+fn main(rt: HostRuntime) -> io::Result<()> {
+    let mut input = BufReader::new(rt.alloc(), rt.stdin())?;
+    let mut output = BufWriter::new(rt.alloc(), rt.stdout())?;
+    for _ in 0..LINES {
+        if !replay_line(&mut input, &mut output)? {
+            break;
+        }
     }
+    output.flush()
 }
 
 // Whether there was a whole line.
-fn replay_line() -> bool {
-    let Read::Number(op) = replay_lines::read_number() else {
-        return false;
+fn replay_line<R: io::Read, W: Write>(input: &mut R, output: &mut W) -> io::Result<bool> {
+    let Read::Number(op) = replay_lines::read_number(input)? else {
+        return Ok(false);
     };
     let mut x = [0; 8];
-    for i in 0..8 {
-        let Read::Number(n) = replay_lines::read_number() else {
-            return false;
-        };
-        x[i] = n;
+    if !replay_lines::read_numbers(input, &mut x)? {
+        return Ok(false);
     }
     let answer = probe::answer((op % 0x1_0000_0000) as u32, &x);
-    replay_lines::print_line(&answer)
+    replay_lines::print_line(output, &answer)?;
+    Ok(true)
 }

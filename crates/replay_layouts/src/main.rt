@@ -3,27 +3,30 @@
 #![tactic(auto)]
 
 use layout::Layout;
-use replay_lines::Read;
+use std::io;
+use std::io::{BufReader, BufWriter, Read, Write};
 
 // More lines than any recording has: a proved loop has to end.
 const LINES: u32 = 1_000_000;
 
-fn main() {
-    let mut left = LINES;
-    while left > 0 && replay_line() {
-        left -= 1;
+fn main(rt: HostRuntime) -> io::Result<()> {
+    let mut input = BufReader::new(rt.alloc(), rt.stdin())?;
+    let mut output = BufWriter::new(rt.alloc(), rt.stdout())?;
+    for _ in 0..LINES {
+        if !replay_line(&mut input, &mut output)? {
+            break;
+        }
     }
+    output.flush()
 }
 
 // Whether there was a whole line.
-fn replay_line() -> bool {
+fn replay_line<R: Read, W: Write>(input: &mut R, output: &mut W) -> io::Result<bool> {
     let mut x = [0; Layout::NUMBERS];
-    for i in 0..Layout::NUMBERS {
-        let Read::Number(n) = replay_lines::read_number() else {
-            return false;
-        };
-        x[i] = n;
+    if !replay_lines::read_numbers(input, &mut x)? {
+        return Ok(false);
     }
     let answer = validate::validate(layout_numbers::layout_of(&x)).words();
-    replay_lines::print_line(&answer)
+    replay_lines::print_line(output, &answer)?;
+    Ok(true)
 }

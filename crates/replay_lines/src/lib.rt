@@ -4,7 +4,8 @@
 ghost use Rattle.std.specs.Prelude.{◌<◌, ◌≡◌};
 ghost use Rattle.replay_lines.specs.Bytes.{bytes_of};
 
-use libc::{STDIN_FILENO, STDOUT_FILENO};
+use std::io;
+use std::io::{ErrorKind, Write};
 
 #[derive(Clone, Copy)]
 pub enum Read {
@@ -12,23 +13,25 @@ pub enum Read {
     End,
 }
 
-pub fn read_number() -> Read {
+// The end, too, where fewer bytes than a number's are left.
+pub fn read_number<R: io::Read>(input: &mut R) -> io::Result<Read> {
     let mut text = [0u8; 17];
-    if io::read_full(STDIN_FILENO, &mut text) < 17 {
-        return Read::End;
+    match input.read_exact(&mut text) {
+        Ok(()) => Ok(Read::Number(number(&text))),
+        Err(e) if e.kind() == ErrorKind::UnexpectedEof => Ok(Read::End),
+        Err(e) => Err(e),
     }
-    Read::Number(number(&text))
 }
 
 // Whether all were there.
-pub fn read_numbers(x: &mut [u64]) -> bool {
+pub fn read_numbers<R: io::Read>(input: &mut R, x: &mut [u64]) -> io::Result<bool> {
     for i in 0..x.len() {
-        let Read::Number(n) = read_number() else {
-            return false;
+        let Read::Number(n) = read_number(input)? else {
+            return Ok(false);
         };
         x[i] = n;
     }
-    true
+    Ok(true)
 }
 
 fn number(text: &[u8; 17]) -> u64 {
@@ -57,24 +60,33 @@ fn digit(c: u8) -> u64
     0
 }
 
-// Whether it was written.
-pub fn print_line(out: &[u64]) -> bool {
+pub fn print_line<W: Write>(output: &mut W, out: &[u64]) -> io::Result<()> {
     for i in 0..out.len() {
-        if !print_number(out[i], i + 1 == out.len()) {
-            return false;
-        }
+        let after = if i + 1 == out.len() { b'\n' } else { b' ' };
+        output.write_all(&spelled(out[i], after))?;
     }
-    true
+    Ok(())
 }
 
-fn print_number(n: u64, last: bool) -> bool {
-    if !io::print_hex(STDOUT_FILENO, n, 16) {
-        return false;
+// A number's digits, and the byte after them.
+fn spelled(n: u64, after: u8) -> [u8; 17] {
+    let mut text = [after; 17];
+    let mut rest = n;
+    for i in 0..16 {
+        text[15 - i] = glyph(rest % 16);
+        rest /= 16;
     }
-    if last {
-        return io::write_all(STDOUT_FILENO, b"\n");
+    text
+}
+
+fn glyph(d: u64) -> u8
+    requires { d < 16 }
+{
+    if d < 10 {
+        b'0' + d as u8
+    } else {
+        b'a' + (d - 10) as u8
     }
-    io::write_all(STDOUT_FILENO, b" ")
 }
 
 // The bytes of a number, the lowest first.

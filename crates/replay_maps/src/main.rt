@@ -5,7 +5,8 @@
 
 use p2m::Span;
 use refusal::Verdict;
-use replay_lines::Read;
+use std::io;
+use std::io::{BufReader, BufWriter, Read, Write};
 
 // More lines than any recording has: a proved loop has to end.
 const LINES: u32 = 1_000_000;
@@ -13,56 +14,58 @@ const LINES: u32 = 1_000_000;
 // The numbers of a call.
 const NUMBERS: usize = 16;
 
-fn main() {
-    let mut left = LINES;
-    while left > 0 && replay_line() {
-        left -= 1;
+fn main(rt: HostRuntime) -> io::Result<()> {
+    let mut input = BufReader::new(rt.alloc(), rt.stdin())?;
+    let mut output = BufWriter::new(rt.alloc(), rt.stdout())?;
+    for _ in 0..LINES {
+        if !replay_line(&mut input, &mut output)? {
+            break;
+        }
     }
+    output.flush()
 }
 
 // Whether there was a whole line.
-fn replay_line() -> bool {
+fn replay_line<R: Read, W: Write>(input: &mut R, output: &mut W) -> io::Result<bool> {
     let mut x = [0; NUMBERS];
-    for i in 0..NUMBERS {
-        let Read::Number(n) = replay_lines::read_number() else {
-            return false;
-        };
-        x[i] = n;
+    if !replay_lines::read_numbers(input, &mut x)? {
+        return Ok(false);
     }
     match x[0] {
-        1 => fill(&x),
-        2 => authorized(&x),
-        _ => exact(&x),
+        1 => fill(output, &x)?,
+        2 => print_answer(output, authorized(&x))?,
+        _ => print_answer(output, exact(&x))?,
     }
+    Ok(true)
 }
 
-fn fill(x: &[u64; NUMBERS]) -> bool {
+fn fill<W: Write>(output: &mut W, x: &[u64; NUMBERS]) -> io::Result<()> {
     let mut base = replay_lines::bytes(x[3]);
     let mut sup = replay_lines::bytes(x[4]);
     let edges = edges(x);
     let frames = frames(x);
     let dom = (x[1] % 65536) as u16;
     let verdict = leafmap::leaf_map_from_edges(&edges, &frames, dom, &mut base, &mut sup);
-    print_answer(verdict) && print_map(base) && print_map(sup)
+    print_answer(output, verdict)?;
+    print_map(output, base)?;
+    print_map(output, sup)
 }
 
-fn authorized(x: &[u64; NUMBERS]) -> bool {
+fn authorized(x: &[u64; NUMBERS]) -> Verdict {
     let leaves = replay_lines::bytes(x[3]);
     let frames = frames(x);
     let grants = [grant(x[14]), grant(x[15])];
     let dom = (x[1] % 65536) as u16;
-    let verdict = authority::check_authorized_with(dom, &leaves, &frames, &grants);
-    print_answer(verdict)
+    authority::check_authorized_with(dom, &leaves, &frames, &grants)
 }
 
-fn exact(x: &[u64; NUMBERS]) -> bool {
+fn exact(x: &[u64; NUMBERS]) -> Verdict {
     let leaves = replay_lines::bytes(x[3]);
     let edges = edges(x);
     let frames = frames(x);
     let dom = (x[1] % 65536) as u16;
     let span = Span::of((x[2] % 0x1_0000_0000) as u32);
-    let verdict = exact::check_exact(dom, &leaves, span, &edges, &frames);
-    print_answer(verdict)
+    exact::check_exact(dom, &leaves, span, &edges, &frames)
 }
 
 fn edges(x: &[u64; NUMBERS]) -> [[u32; 6]; 4] {
@@ -106,12 +109,12 @@ fn grant(n: u64) -> [u32; 4] {
     ]
 }
 
-fn print_answer(verdict: Verdict) -> bool {
+fn print_answer<W: Write>(output: &mut W, verdict: Verdict) -> io::Result<()> {
     let answer = verdict.words();
-    replay_lines::print_line(&answer)
+    replay_lines::print_line(output, &answer)
 }
 
-fn print_map(map: [u8; 8]) -> bool {
+fn print_map<W: Write>(output: &mut W, map: [u8; 8]) -> io::Result<()> {
     let entries = [
         map[0] as u64,
         map[1] as u64,
@@ -122,5 +125,5 @@ fn print_map(map: [u8; 8]) -> bool {
         map[6] as u64,
         map[7] as u64,
     ];
-    replay_lines::print_line(&entries)
+    replay_lines::print_line(output, &entries)
 }

@@ -6,32 +6,42 @@
 
 use layout::Layout;
 use refusal::Verdict;
+use std::io;
+use std::io::{BufReader, BufWriter, Read, Write};
 
 // More lines than any recording has: a proved loop has to end.
 const LINES: u32 = 1_000_000;
 
-fn main() {
+fn main(rt: HostRuntime) -> io::Result<()> {
+    let mut input = BufReader::new(rt.alloc(), rt.stdin())?;
+    let mut output = BufWriter::new(rt.alloc(), rt.stdout())?;
     let mut arena = [0; Layout::ARENA_LEN];
-    let mut left = LINES;
-    while left > 0 && replay_line(&mut arena) {
-        left -= 1;
+    for _ in 0..LINES {
+        if !replay_line(&mut input, &mut output, &mut arena)? {
+            break;
+        }
     }
+    output.flush()
 }
 
-// Whether there was a whole line.
-fn replay_line(arena: &mut [u64]) -> bool {
+// Whether there was a whole line, and the arena has the words that it lends or stores.
+fn replay_line<R: Read, W: Write>(
+    input: &mut R,
+    output: &mut W,
+    arena: &mut [u64],
+) -> io::Result<bool> {
     let mut x = [0; 6];
-    if !replay_lines::read_numbers(&mut x) {
-        return false;
+    if !replay_lines::read_numbers(input, &mut x)? {
+        return Ok(false);
     }
     if x[0] == 0 {
-        return store(arena, x[1] as usize, x[2] as usize, x[3]);
+        return Ok(store(arena, x[1] as usize, x[2] as usize, x[3]));
     }
     let mut numbers = [0; Layout::NUMBERS];
-    if !replay_lines::read_numbers(&mut numbers) {
-        return false;
+    if !replay_lines::read_numbers(input, &mut numbers)? {
+        return Ok(false);
     }
-    call_over(arena, &x, layout_numbers::layout_of(&numbers))
+    call_over(output, arena, &x, layout_numbers::layout_of(&numbers))
 }
 
 // A word at so many places from this one on. Whether all are there.
@@ -48,34 +58,36 @@ fn store(arena: &mut [u64], from: usize, count: usize, word: u64) -> bool {
     true
 }
 
-// The call over as many words as are lent.
-fn call_over(arena: &mut [u64], x: &[u64; 6], l: Layout) -> bool {
+// The call over as many words as are lent. Whether all are there.
+fn call_over<W: Write>(
+    output: &mut W,
+    arena: &mut [u64],
+    x: &[u64; 6],
+    l: Layout,
+) -> io::Result<bool> {
     let lent = x[3] as usize;
     if arena.len() < lent {
-        return false;
+        return Ok(false);
     }
-    call(&mut arena[..lent], x, l)
+    call(output, &mut arena[..lent], x, l)?;
+    Ok(true)
 }
 
-fn call(arena: &mut [u64], x: &[u64; 6], l: Layout) -> bool {
+fn call<W: Write>(output: &mut W, arena: &mut [u64], x: &[u64; 6], l: Layout) -> io::Result<()> {
+    let base = replay_lines::bytes(x[1]);
+    let sup = replay_lines::bytes(x[2]);
     match x[0] {
-        1 => encode(arena, x, l) && print_digest(arena),
-        2 => steps(arena, x, l) && print_digest(arena),
-        3 => walk(arena, x, l),
-        _ => verify(arena, x, l),
+        1 => {
+            print_answer(output, encode::encode(arena, &base, &sup, l))?;
+            print_digest(output, arena)
+        }
+        2 => {
+            print_answer(output, steps_between(arena, &base, &sup, l, x[4], x[5]))?;
+            print_digest(output, arena)
+        }
+        3 => walk(output, arena, x[4], l),
+        _ => print_answer(output, verify::verify_encoding(arena, &base, &sup, l)),
     }
-}
-
-fn encode(arena: &mut [u64], x: &[u64; 6], l: Layout) -> bool {
-    let base = replay_lines::bytes(x[1]);
-    let sup = replay_lines::bytes(x[2]);
-    print_answer(encode::encode(arena, &base, &sup, l))
-}
-
-fn steps(arena: &mut [u64], x: &[u64; 6], l: Layout) -> bool {
-    let base = replay_lines::bytes(x[1]);
-    let sup = replay_lines::bytes(x[2]);
-    print_answer(steps_between(arena, &base, &sup, l, x[4], x[5]))
 }
 
 // The steps from one to another, or to the first that is refused; what the last one says.
@@ -96,7 +108,7 @@ fn steps_between(
     Verdict::Accepted
 }
 
-fn walk(arena: &[u64], x: &[u64; 6], l: Layout) -> bool {
+fn walk<W: Write>(output: &mut W, arena: &[u64], ipa: u64, l: Layout) -> io::Result<()> {
     let tables = [
         l.l1_pa,
         l.l2_code_pa,
@@ -105,28 +117,22 @@ fn walk(arena: &[u64], x: &[u64; 6], l: Layout) -> bool {
         l.l2_sup_pa,
         l.l2_dev_pa,
     ];
-    let answer = walk::walk(arena, &tables, x[4]).words();
-    replay_lines::print_line(&answer)
+    let answer = walk::walk(arena, &tables, ipa).words();
+    replay_lines::print_line(output, &answer)
 }
 
-fn verify(arena: &[u64], x: &[u64; 6], l: Layout) -> bool {
-    let base = replay_lines::bytes(x[1]);
-    let sup = replay_lines::bytes(x[2]);
-    print_answer(verify::verify_encoding(arena, &base, &sup, l))
-}
-
-fn print_answer(verdict: Verdict) -> bool {
+fn print_answer<W: Write>(output: &mut W, verdict: Verdict) -> io::Result<()> {
     let answer = verdict.words();
-    replay_lines::print_line(&answer)
+    replay_lines::print_line(output, &answer)
 }
 
-fn print_digest(arena: &[u64]) -> bool {
+fn print_digest<W: Write>(output: &mut W, arena: &[u64]) -> io::Result<()> {
     let mut digest = 0;
     for i in 0..arena.len() {
         let word = arena[i];
         digest = joined(joined(digest, word % 0x1_0000_0000), word / 0x1_0000_0000);
     }
-    replay_lines::print_line(&[digest])
+    replay_lines::print_line(output, &[digest])
 }
 
 // A polynomial in 65,599 modulo the prime 2^40 - 87, over the low and the high half of each word.

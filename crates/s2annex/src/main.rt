@@ -1,24 +1,33 @@
 // Prints the annex page of a scene (request M-100): reads the scene's bytes, and writes those that are printed.
 #![tactic(auto)]
 
-ghost use Rattle.s2annex.specs.Input.{PrintsText};
+ghost use Rattle.std.specs.Prelude.{◌≡◌, IfOk, OnErr, OnOk};
+ghost use Rattle.s2annex.specs.Input.{PutsText, PrintsText};
 
 use layout::Layout;
-use libc::STDOUT_FILENO;
+use std::io;
+use std::io::{Read, Write};
 
-fn main() {
-    let mut page = [0; annex::LONGEST];
-    let len = read_page(&mut page);
-    io::write_all(STDOUT_FILENO, &page[..len]);
+fn main(rt: HostRuntime) -> io::Result<()> {
+    print_text(&mut rt.stdin(), &mut rt.stdout())
 }
 
-// Of the text that is read.
-fn read_page(page: &mut [u8; annex::LONGEST]) -> usize
-    ensures { PrintsText page.old result page.new }
+// What is printed of the text that is read.
+fn print_text<R: Read, W: Write>(input: &mut R, output: &mut W) -> io::Result<()>
+    ensures { OnOk result (PrintsText (R.remaining input.old) (W.contents output.old) (W.contents output.new)) }
+{
+    let mut page = [0; annex::LONGEST];
+    let len = read_page(input, &mut page)?;
+    output.write_all(&page[..len])
+}
+
+fn read_page<R: Read>(input: &mut R, page: &mut [u8; annex::LONGEST]) -> io::Result<usize>
+    ensures ok { IfOk result (λ n. PutsText (R.remaining input.old) page.old n page.new) }
+    ensures err { OnErr result (page.new ≡ page.old) }
 {
     let mut numbers = [0; Layout::NUMBERS];
     let mut base = [0; Layout::ENTRIES];
     let mut sup = [0; Layout::ENTRIES];
-    let said = scene_read::read_scene(&mut numbers, &mut base, &mut sup);
-    annex_text::print(said, &numbers, &base, &sup, page)
+    let said = scene_read::read_scene(input, &mut numbers, &mut base, &mut sup)?;
+    Ok(annex_text::print(said, &numbers, &base, &sup, page))
 }

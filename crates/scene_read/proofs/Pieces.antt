@@ -1,7 +1,5 @@
 -- One piece more of a text.
-use Prim.Native.Nat.{ℕ}
-use mathlib.Core.List.{List, [], ◌++◌}
-use mathlib.Core.Path.{◌≡◌, sym, ap, ◌∙◌}
+use Rattle.std.proofs.Common.{ℕ, List, [], ◌++◌, ◌≡◌, sym, ap, ◌∙◌}
 use Rattle.scene.specs.Scene.{Scene}
 use Rattle.scene_text.proofs.Lines.{reads_pieces}
 use Rattle.scene_text.specs.Reading.{Reading, reading, taken_all}

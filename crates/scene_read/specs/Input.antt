@@ -1,9 +1,20 @@
--- A scene that is read from the program's input.
-use Rattle.std.specs.Prelude.{ℕ, Bool, List, ◌≡◌}
+-- A scene that is read from a reader.
+use Rattle.std.specs.Prelude.{ℕ, ◌-◌, ◌^◌, ◌<◌, Bool, Option, List, [], ◌++◌, ◌≡◌, length, IfSome}
 use Rattle.scene.specs.Scene.{Scene}
-use Rattle.scene_text.specs.Reading.{read_of}
+use Rattle.scene_text.specs.Reading.{reading, taken_all, read_of}
 use Rattle.scene_text.specs.Text.{read_from}
 
--- the answer and the scene at exit are those of some text, read over the scene at entry: no contract can say which bytes a read brings
-abbrev pub ReadsText : Scene → Bool → Scene → Type 0
-ReadsText s said new = (text : List ℕ) × (read_of said new ≡ read_from s text)
+-- the text is the bytes that the reader has, where they are known, if they are no more than any input has
+abbrev pub IsTextOf : Option (List ℕ) → List ℕ → Type 0
+IsTextOf known text = IfSome known (λ bytes. length bytes < 2 ^ 64 - 1 → text ≡ bytes)
+
+-- the answer and the scene at exit are those of the text, read over the scene at entry
+abbrev pub ReadsText : Option (List ℕ) → Scene → Bool → Scene → Type 0
+ReadsText known s said new = (text : List ℕ) × IsTextOf known text × (read_of said new ≡ read_from s text)
+
+-- where a read fails: the scene of the lines that have ended, of the text that was read until then, in the front of the reader's bytes
+abbrev pub LeavesText : Option (List ℕ) → Scene → Scene → Type 0
+LeavesText known s new =
+    (text : List ℕ)
+    × IfSome known (λ bytes. (rest : List ℕ) × (bytes ≡ text ++ rest))
+    × ((line : List ℕ) × (taken_all 36 (reading s []) text ≡ reading new line))

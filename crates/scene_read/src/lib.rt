@@ -1,24 +1,30 @@
-// Reads a scene from the program's input, piece by piece.
+// Reads a scene from a reader, such as the program's input, piece by piece.
 #![tactic(auto)]
 
+ghost use Rattle.std.specs.Prelude.{IfOk, OnErr};
 ghost use Rattle.scene.specs.Scene.{scene};
-ghost use Rattle.scene_read.specs.Input.{ReadsText};
+ghost use Rattle.scene_read.specs.Input.{ReadsText, LeavesText};
 
-use libc::STDIN_FILENO;
 use scene_text::Taken;
+use std::io;
+use std::io::Read;
 
 // Whether every line said something.
-pub fn read_scene(numbers: &mut [u64], base: &mut [u8], sup: &mut [u8]) -> bool
-    ensures { ReadsText (scene numbers.old base.old sup.old) result
-        (scene numbers.new base.new sup.new) }
+pub fn read_scene<R: Read>(
+    input: &mut R,
+    numbers: &mut [u64],
+    base: &mut [u8],
+    sup: &mut [u8],
+) -> io::Result<bool>
+    ensures ok { IfOk result (λ said. ReadsText (R.remaining input.old) (scene numbers.old base.old sup.old) said (scene numbers.new base.new sup.new)) }
+    ensures err { OnErr result (LeavesText (R.remaining input.old) (scene numbers.old base.old sup.old) (scene numbers.new base.new sup.new)) }
 {
-    let mut piece = io::buffer();
+    let mut piece = [0; 4096];
     let mut line = [0; scene_text::LINE];
     let mut len = 0;
     // A proved loop has to end: no input has so many pieces.
-    let mut left = u64::MAX;
-    while 0 < left {
-        let n = io::count(libc::read(STDIN_FILENO, &mut piece), &piece);
+    for _piece in 0..u64::MAX {
+        let n = input.read(&mut piece)?;
         if n == 0 {
             break;
         }
@@ -30,10 +36,9 @@ pub fn read_scene(numbers: &mut [u64], base: &mut [u8], sup: &mut [u8]) -> bool
             base,
             sup,
         ) else {
-            return false;
+            return Ok(false);
         };
         len = kept;
-        left -= 1;
     }
-    scene_text::finish(&line, len, numbers, base, sup)
+    Ok(scene_text::finish(&line, len, numbers, base, sup))
 }

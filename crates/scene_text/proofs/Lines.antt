@@ -1,6 +1,6 @@
 -- What is read piece by piece is what the lines of the text say: by the bytes that are left. A line of which bytes are dropped is longer
 -- than any that says something.
-use Prim.Native.Nat.{ℕ, ◌+◌, ◌<◌}
+use Prim.Native.Nat.{ℕ, ◌<◌}
 use mathlib.Core.Bool.{Bool, true, false}
 use mathlib.Core.List.{List, [], ◌∷◌, ◌++◌, foldl, foldl-append}
 use mathlib.Core.Path.{◌≡◌, refl, sym, ap, ◌∙◌}
