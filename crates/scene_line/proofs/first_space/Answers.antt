@@ -1,9 +1,5 @@
-<<<<<<< HEAD
 -- `first_space` meets its contract: the first space is the first from i on.
 use native.Mathlib.Omega.{arith}
-=======
-use Rattle.std.proofs.Common.{arith}
->>>>>>> d835a784bf1083ff9162147ef43e276a5d99a257
 use Rattle.scene_line.proofs.Spaces.{space_here, space_later, space_none}
 use Rattle.scene_line.proofs.first_space.Goals as goal
 
@@ -12,20 +8,9 @@ returns-then-text-i-eq32 c =
     omega (arith, c.loop-i.invariant.1, space_here c.args.text.now c.loop-i.i c.loop-i-test.true c.if-text-i-eq32.true)
 
 pub loop-i-preserved : goal.loop-i-preserved
-<<<<<<< HEAD
 loop-i-preserved c =
     omega (arith, c.loop-i.invariant.1, space_later c.args.text.now c.loop-i.i c.loop-i-test.true c.if-text-i-eq32.false)
 
 pub returns : goal.returns
 returns c =
     omega (arith, c.loop-i.invariant.1, space_none c.args.text.now c.loop-i.i c.loop-i-test.false)
-=======
-loop-i-preserved c = (
-  omega (arith, c.loop-i-test.true),
-  omega (arith, c.loop-i.invariant.1, space_later c.args.text.now c.loop-i.i c.loop-i-test.true c.if-text-i-eq32.false),
-)
-
-pub returns : goal.returns
-returns c =
-    omega (arith, c.loop-i.invariant.0, c.loop-i.invariant.1, c.loop-i-test.false, space_none c.args.text.now c.loop-i.i c.loop-i-test.false)
->>>>>>> d835a784bf1083ff9162147ef43e276a5d99a257

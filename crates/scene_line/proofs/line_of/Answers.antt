@@ -1,11 +1,6 @@
-<<<<<<< HEAD
 -- `line_of` meets its contract: a letter, a space, and what is said after it.
 use mathlib.Core.Path.{sym, ap, ◌∙◌}
 use lib.ListN.{get_or}
-=======
--- A letter, a space, and what is said after it.
-use Rattle.std.proofs.Common.{sym, ap, ◌∙◌, get_or}
->>>>>>> d835a784bf1083ff9162147ef43e276a5d99a257
 use Rattle.scene_line.specs.Line.{said_after}
 use Rattle.scene_line.proofs.Lines.{too_short, no_space, spaced}
 use Rattle.scene_line.proofs.Part.{to_end}
@@ -15,20 +10,12 @@ pub returns-then-text-lt2 : goal.returns-then-text-lt2
 returns-then-text-lt2 c = sym (too_short c.args.text.now c.if-text-lt2.true)
 
 pub returns-then-text-ne32 : goal.returns-then-text-ne32
-<<<<<<< HEAD
 returns-then-text-ne32 c =
     sym (no_space c.args.text.now c.if-text-lt2.false c.if-text-ne32.true)
-=======
-returns-then-text-ne32 c = sym (no_space c.args.text.now c.if-text-lt2.false c.if-text-ne32.true)
->>>>>>> d835a784bf1083ff9162147ef43e276a5d99a257
 
 pub returns : goal.returns
 returns c =
     let text = c.args.text.now in
-<<<<<<< HEAD
     c.said_after.ensures
     ∙ ap (said_after (get_or text 0 0)) (to_end text 2)
     ∙ sym (spaced text c.if-text-lt2.false c.if-text-ne32.false)
-=======
-    c.said_after.ensures ∙ ap (said_after (get_or text 0 0)) (to_end text 2) ∙ sym (spaced text c.if-text-lt2.false c.if-text-ne32.false)
->>>>>>> d835a784bf1083ff9162147ef43e276a5d99a257

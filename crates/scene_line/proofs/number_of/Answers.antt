@@ -1,4 +1,3 @@
-<<<<<<< HEAD
 -- `number_of` meets its contract: the number of all digits is n with_digit by those from i on.
 use mathlib.Core.Path.{sym, ◌∙◌}
 use native.Mathlib.Omega.{arith}
@@ -27,47 +26,9 @@ loop-i-preserved c =
       value_next c.loop-i.n c.loop-i.i c.in-Value.d c.loop-i.invariant.0 d,
       c.loop-i.invariant.1 ∙ digit_next c.args.text.now c.loop-i.n c.loop-i.i c.in-Value.d c.loop-i-test.true (sym c.in-Value.ensures),
     )
-=======
-use Rattle.std.proofs.Common.{arith, ◌+◌, ◌*◌, ◌^◌, ◌<◌, ◌≡◌, sym, ◌∙◌, slice_index_or}
-use Rattle.scene_line.specs.Line.{digit_of}
-use Rattle.scene_line.specs.declared.Number.TheVariants.{Value}
-use Rattle.scene_line.proofs.Digits.{digit_small, number_read, digit_next, digit_none, digit_end, value_next, value_fits}
-use Rattle.scene_line.proofs.number_of.Goals as goal
-
--- the digit that was read is below 16, and one more fits
-read : (c : goal.In-Value) → digit_of (slice_index_or c.args.text.now c.loop-i.i 0) ≡ Value c.in-Value.d
-read c = sym c.in-Value.ensures
-
-fits : (c : goal.In-Value) → c.loop-i.n * 16 + c.in-Value.d < 2 ^ 64
-fits c =
-    value_fits c.loop-i.n c.loop-i.i c.in-Value.d c.loop-i.invariant.0 (digit_small _ _ (read c))
-    (omega (arith, c.loop-i-test.true, c.if-text-gt16.false))
-
-pub returns-in_default : goal.returns-in_default
-returns-in_default c =
-    let text = c.args.text.now in
-    let stop = digit_none text c.loop-i.n c.loop-i.i c.loop-i-test.true (sym c.in_default.ensures) in
-    sym (number_read text c.if-text-lt1.false c.if-text-gt16.false ∙ c.loop-i.invariant.1 ∙ stop)
-
-pub overflow_mul-n : goal.overflow_mul-n
-overflow_mul-n c = omega (arith, fits c)
-
-pub overflow_add-n : goal.overflow_add-n
-overflow_add-n c = omega (arith, fits c)
-
-pub loop-i-preserved : goal.loop-i-preserved
-loop-i-preserved c = (
-  value_next c.loop-i.n c.loop-i.i c.in-Value.d c.loop-i.invariant.0 (digit_small _ _ (read c)),
-  c.loop-i.invariant.1 ∙ digit_next c.args.text.now c.loop-i.n c.loop-i.i c.in-Value.d c.loop-i-test.true (read c),
-)
->>>>>>> d835a784bf1083ff9162147ef43e276a5d99a257
 
 pub returns : goal.returns
 returns c =
     let text = c.args.text.now in
-<<<<<<< HEAD
     let end = digit_end text c.loop-i.n c.loop-i.i c.loop-i-test.false in
     sym (number_read text c.if-text-lt1.false c.if-text-gt16.false ∙ c.loop-i.invariant.1 ∙ end)
-=======
-    sym (number_read text c.if-text-lt1.false c.if-text-gt16.false ∙ c.loop-i.invariant.1 ∙ digit_end text c.loop-i.n c.loop-i.i c.loop-i-test.false)
->>>>>>> d835a784bf1083ff9162147ef43e276a5d99a257

@@ -1,25 +1,16 @@
-<<<<<<< HEAD
 -- `said_after` meets its contract: the first space parts the two numbers.
 use Prim.Native.Nat.{ℕ, ◌+◌, ◌≤◌}
 use mathlib.Core.List.{[]}
 use mathlib.Core.Path.{◌≡◌, refl, sym, ap, ap₂, ◌∙◌}
 use native.Mathlib.Omega.{arith}
 use lib.ListN.{length, take, drop, drop_of_length-le}
-=======
--- The first space parts the two numbers.
-use Rattle.std.proofs.Common.{arith, ℕ, ◌+◌, ◌-◌, ◌≤◌, ◌≡◌, List, [], refl, sym, ap, ap₂, ◌∙◌, length, take, drop}
-use Rattle.std.proofs.Math.ListN.{drop_of_length-le}
->>>>>>> d835a784bf1083ff9162147ef43e276a5d99a257
 use Rattle.scene_line.specs.Line.{number_of, first_space, before_space, after_space, said_by, said_after}
 use Rattle.scene_line.specs.declared.Line.TheVariants.{Bad}
 use Rattle.scene_line.specs.declared.Number.{Number}
 use Rattle.scene_line.specs.declared.Number.TheVariants.{Value, NoNumber}
 use Rattle.scene_line.proofs.Part.{to_end}
 use Rattle.scene_line.proofs.said_after.Goals as goal
-<<<<<<< HEAD
 use Rattle.scene_line.proofs.said_after.Goals.{After-number_of, After-number_of-2}
-=======
->>>>>>> d835a784bf1083ff9162147ef43e276a5d99a257
 
 no_second : (letter : ℕ) (a b : Number) → b ≡ NoNumber → said_by letter a b ≡ Bad
 no_second letter (Value n) b none = ap (said_by letter (Value n)) none
@@ -29,7 +20,6 @@ nothing : number_of [] ≡ NoNumber
 unfolding number_of
 nothing = refl
 
-<<<<<<< HEAD
 first :
     (c : After-number_of) →
     c.number_of.result ≡ number_of (before_space c.args.text.now)
@@ -44,62 +34,29 @@ second c =
     c.number_of-2.ensures
     ∙ ap number_of (to_end text (c.first_space-end.result + 1))
     ∙ ap (λ k. number_of (drop (k + 1) text)) c.first_space-end.ensures
-=======
--- the text of the second number
-rest : (text : List ℕ) (end : ℕ) → end ≡ first_space text → take (length text - (end + 1)) (drop (end + 1) text) ≡ after_space text
-rest text end e = to_end text (end + 1) ∙ ap (λ k. drop (k + 1) text) e
->>>>>>> d835a784bf1083ff9162147ef43e276a5d99a257
 
 pub returns-then-text-end : goal.returns-then-text-end
 unfolding said_after
 returns-then-text-end c =
-<<<<<<< HEAD
     let a = c.args in
     let past : length a.text.now ≤ first_space a.text.now + 1 = omega (arith, c.if-text-end.true, c.first_space-end.ensures) in
     let none = ap number_of (drop_of_length-le a.text.now past) ∙ nothing in
     sym (no_second a.letter (number_of (before_space a.text.now)) _ none)
-=======
-    let text = c.args.text.now in
-    let past : length text ≤ first_space text + 1 = omega (arith, c.if-text-end.true, c.first_space-end.ensures) in
-    let none = ap number_of (drop_of_length-le text past) ∙ nothing in
-    sym (no_second c.args.letter (number_of (before_space text)) _ none)
->>>>>>> d835a784bf1083ff9162147ef43e276a5d99a257
 
 pub returns-in_default : goal.returns-in_default
 unfolding said_after
 returns-in_default c =
-<<<<<<< HEAD
     let a = c.args in
     sym (ap (λ x. said_by a.letter x (number_of (after_space a.text.now))) (sym (first (goal.at.returns-in_default c).After-number_of) ∙ c.in_default.is))
-=======
-    let text = c.args.text.now in
-    let first : NoNumber ≡ number_of (before_space text) = c.in_default.ensures ∙ ap (λ k. number_of (take k text)) c.first_space-end.ensures in
-    sym (ap (λ x. said_by c.args.letter x (number_of (after_space text))) (sym first))
->>>>>>> d835a784bf1083ff9162147ef43e276a5d99a257
 
 pub returns-in_default-number_of : goal.returns-in_default-number_of
 unfolding said_after
 returns-in_default-number_of c =
-<<<<<<< HEAD
     let a = c.args in
     sym (no_second a.letter (number_of (before_space a.text.now)) _ (sym (second (goal.at.returns-in_default-number_of c).After-number_of-2) ∙ c.in_default-number_of.is))
-=======
-    let text = c.args.text.now in
-    let second : NoNumber ≡ number_of (after_space text) =
-    c.in_default-number_of.ensures ∙ ap number_of (rest text c.first_space-end.result c.first_space-end.ensures) in
-    sym (no_second c.args.letter (number_of (before_space text)) _ (sym second))
->>>>>>> d835a784bf1083ff9162147ef43e276a5d99a257
 
 pub returns : goal.returns
 unfolding said_after
 returns c =
-<<<<<<< HEAD
     let letter = c.args.letter in
     c.said.ensures ∙ sym (ap₂ (said_by letter) (sym (first (goal.at.returns c).After-number_of) ∙ c.in-Value.is) (sym (second (goal.at.returns c).After-number_of-2) ∙ c.in-Value-number_of.is))
-=======
-    let text = c.args.text.now in
-    let first : Value c.in-Value.a ≡ number_of (before_space text) = c.in-Value.ensures ∙ ap (λ k. number_of (take k text)) c.first_space-end.ensures in
-    let second : Value c.in-Value-number_of.b ≡ number_of (after_space text) =
-    c.in-Value-number_of.ensures ∙ ap number_of (rest text c.first_space-end.result c.first_space-end.ensures) in
-    c.said.ensures ∙ ap₂ (said_by c.args.letter) first second
->>>>>>> d835a784bf1083ff9162147ef43e276a5d99a257

@@ -1,8 +1,4 @@
 -- `all_reached` meets its contract: the first row is that of the windows from i on.
-<<<<<<< HEAD
-use Prim.Native.Nat.{◌-◌}
-=======
->>>>>>> 66cb9cfed8a3ec63542978cdbc6d419579030be8
 use mathlib.Core.Bool.{false}
 use Rattle.layout.specs.Window.{window}
 use Rattle.refusal.proofs.Loop.{refuses, passes, ends, each_walk}

@@ -1,0 +1,48 @@
+-- `other_words` meets its contract: the first row is that of the words from j on.
+use Prim.Native.Nat.{◌-◌}
+use mathlib.Core.Logic.{⊎_elim}
+use mathlib.Core.Path.{sym, ◌∙◌}
+use borrow.Author.Tests.{eq-eqb, ne_eqb, not-false}
+use Rattle.layout.specs.Size.{entries}
+use Rattle.refusal.specs.Table.{first}
+use Rattle.verify_rows.proofs.Range.{rest_at, rest_end}
+use Rattle.verify_rows.specs.Verifying.{other_row}
+use Rattle.verify_tables.proofs.other_words.Goals as goal
+
+pub returns-then-not-live_at : goal.returns-then-not-live_at
+unfolding other_row first
+returns-then-not-live_at c =
+    let a = c.args in
+    let here = rest_at (other_row a.arena.now a.l a.table) entries c.loop-j.j c.loop-j-test.true in
+    rw (
+      c.loop-j.invariant,
+      here,
+      ← c.table_word-desc.ensures,
+      ne_eqb _ _ c.if-desc-ne0.true,
+      ← v.Live-at.ensures,
+      c.if-not-live_at.true,
+    )
+
+pub loop-j-preserved : goal.loop-j-preserved
+unfolding other_row
+loop-j-preserved c =
+    let a = c.args in
+    let row = other_row a.arena.now a.l a.table in
+    let here = rest_at row entries c.loop-j.j c.loop-j-test.true in
+    let skipped = c.past_zeros-j-in-loop-j.ensures.2 a.l in
+    ⊎_elim
+    (λ t.
+    rw (
+      ← skipped,
+      c.loop-j.invariant,
+      here,
+      ← c.table_word-desc.ensures,
+      ne_eqb _ _ t.0.taken,
+      ← t.1.ensures,
+      not-false t.1.result t.2.left,
+    ))
+    (λ t. rw (← skipped, c.loop-j.invariant, here, ← c.table_word-desc.ensures, eq-eqb _ _ t.left))
+    c.if-desc-ne0.branch
+
+pub returns : goal.returns
+returns c = rest_end _ entries c.loop-j.j c.loop-j-test.false ∙ sym c.loop-j.invariant
