@@ -1,13 +1,13 @@
 -- `other_words` meets its contract: the first row is that of the words from j on.
 use Prim.Native.Nat.{◌-◌}
-use mathlib.Core.Logic.{⊎_elim}
 use mathlib.Core.Path.{sym, ◌∙◌}
-use borrow.Author.Tests.{eq-eqb, ne_eqb, not-false}
+use borrow.Author.Tests.{eq-eqb, ne_eqb}
 use Rattle.layout.specs.Size.{entries}
 use Rattle.refusal.specs.Table.{first}
 use Rattle.verify_rows.proofs.Range.{rest_at, rest_end}
 use Rattle.verify_rows.specs.Verifying.{other_row}
 use Rattle.verify_tables.proofs.other_words.Goals as goal
+use Rattle.verify_tables.proofs.other_words.Goals.{then-desc-ne0+else-not-live_at, else-desc-ne0}
 
 pub returns-then-not-live_at : goal.returns-then-not-live_at
 unfolding other_row first
@@ -19,7 +19,7 @@ returns-then-not-live_at c =
       here,
       ← c.table_word-desc.ensures,
       ne_eqb _ _ c.if-desc-ne0.true,
-      ← v.Live-at.ensures,
+      ← c.live_at.ensures,
       c.if-not-live_at.true,
     )
 
@@ -30,19 +30,19 @@ loop-j-preserved c =
     let row = other_row a.arena.now a.l a.table in
     let here = rest_at row entries c.loop-j.j c.loop-j-test.true in
     let skipped = c.past_zeros-j-in-loop-j.ensures.2 a.l in
-    ⊎_elim
-    (λ t.
-    rw (
-      ← skipped,
-      c.loop-j.invariant,
-      here,
-      ← c.table_word-desc.ensures,
-      ne_eqb _ _ t.0.taken,
-      ← t.1.ensures,
-      not-false t.1.result t.2.left,
-    ))
-    (λ t. rw (← skipped, c.loop-j.invariant, here, ← c.table_word-desc.ensures, eq-eqb _ _ t.left))
-    c.if-desc-ne0.branch
+    elim c.if-desc-ne0.branch [
+      then-desc-ne0+else-not-live_at t ↦
+        rw (
+          ← skipped,
+          c.loop-j.invariant,
+          here,
+          ← c.table_word-desc.ensures,
+          ne_eqb _ _ t.if-desc-ne0.true,
+          ← t.live_at.ensures,
+          t.if-not-live_at.false,
+        )
+    | else-desc-ne0 t ↦ rw (← skipped, c.loop-j.invariant, here, ← c.table_word-desc.ensures, eq-eqb _ _ t.if-desc-ne0.false)
+    ]
 
 pub returns : goal.returns
 returns c = rest_end _ entries c.loop-j.j c.loop-j-test.false ∙ sym c.loop-j.invariant

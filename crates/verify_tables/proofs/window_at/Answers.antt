@@ -10,23 +10,17 @@ use Rattle.areas.specs.Area.{no_area, live_areas_of, area_has}
 use Rattle.areas.specs.declared.Area.{Area}
 use Rattle.verify_rows.specs.Verifying.{window_at}
 use Rattle.verify_tables.proofs.window_at.Goals as goal
-use Rattle.verify_tables.proofs.window_at.Goals.{After-has}
 
 here :
     (areas : List Area) (i j : ℕ) → i < length areas →
     window_at (drop i areas) j ≡ (area_has (get_or areas i no_area) j || window_at (drop (i + 1) areas) j)
 here areas i j h = rw (add-one, drop-cons areas i no_area)
 
-has_at :
-    (c : After-has invariant_loop decreases_loop) →
-    c.has.result ≡ area_has (get_or (live_areas_of c.args.l) c.loop-i.i no_area) c.args.j
-has_at c = c.has.ensures ∙ ap (λ (a : Area). area_has a c.args.j) c.live_area.ensures
-
 pub loop-i-preserved : goal.loop-i-preserved
 loop-i-preserved c =
     let a = c.args in
     let at = here (live_areas_of a.l) c.loop-i.i a.j c.loop-i-test.true in
-    rw (c.loop-i.invariant, at, ← has_at (goal.at.loop-i-preserved c).After-has, c.if-has.false)
+    rw (c.loop-i.invariant, at, ← (c.has.ensures ∙ ap (λ (a : Area). area_has a c.args.j) c.live_area.ensures), c.if-has.false)
 
 pub returns : goal.returns
 returns c =
