@@ -8,6 +8,7 @@ ghost use Rattle.probe.specs.Answers.{answer_of};
 use probe_numbers::{frames, granules, levels, regimes, registers, words};
 
 // The answer of function `op` at `x`; zeros where there is no such function.
+#[tactic(auto, unfolding(crate::specs::Answers::answer_of))]
 pub fn answer(op: u32, x: &[u64; 8]) -> [u64; 8]
     ensures { result ≡ answer_of op x.now }
 {
