@@ -96,6 +96,7 @@ module _ (owner dom m : ℕ) (w : Bool) where
       (grants : List Grant) (g : Grant) →
       Memᴰ g grants → covers owner dom m w g ≡ true → has_grant grants owner dom m w ≡ true
   unfolding has_grant
+  found [] g t c = elim t [ ]
   found (x ∷ xs) g (Memᴰ.head q) c = rw (ap (covers owner dom m w) (sym q) ∙ c)
   found (x ∷ xs) g (Memᴰ.tail t) c = or_right (covers owner dom m w x) (has_grant xs owner dom m w) (found xs g t c)
 

@@ -26,7 +26,7 @@ use Rattle.p2m.specs.declared.Span.TheVariants.{Base, Super}
 use Rattle.p2m.specs.declared.TableSpan.{TableSpan}
 use Rattle.p2m.specs.declared.TableSpan.TheVariants.{Leaves, Unsupported}
 use Rattle.refusal.proofs.None.{none, accept, from_none, from_nowhere, refused≢accepted}
-use Rattle.refusal.specs.Table.{accepted, refused, refuse_if}
+use Rattle.refusal.specs.Table.{accepted, refuse_if}
 
 abbrev Longer : Filling → Filling → Type 0
 Longer f g = (s : Span) → length (map_of s f) ≤ length (map_of s g)
