@@ -11,17 +11,15 @@ use Rattle.judge_translation.proofs.elsewhere.Goals.{After-is_at}
 
 -- the word of the places from i on, by the answer of the place there
 turn :
-    (v : After-is_at invariant_loop decreases_loop) →
+    (v : After-is_at) →
     let a = v.args in
     elsewhere_of a.places.now a.named a.index
     ≡ pick v.is_at.result (get_or (get_or a.places.now v.loop-i.i []) 2 0)
     (elsewhere_of (drop (v.loop-i.i + 1) a.places.now) a.named a.index)
 turn v =
-    let in-loop = v in
-    let h = in-loop.before in
-    let a = h.before.args in
-    h.loop.invariant
-    ∙ elsewhere_at a.places.now h.loop.i a.named a.index in-loop.loop-test.true
+    let a = v.args in
+    v.loop-i.invariant
+    ∙ elsewhere_at a.places.now v.loop-i.i a.named a.index v.loop-i-test.true
     ∙ rw (sym v.is_at.ensures)
 
 pub returns-then-is_at : goal.returns-then-is_at
