@@ -1,5 +1,4 @@
-// The arena and the six addresses, kept together. The borrow checker covers no function over such a struct, so these are thin, and
-// the walk itself is `walk`'s.
+// The arena and the six addresses, kept together. These functions are thin: the walk itself is `walk`'s.
 #![tactic(auto)]
 
 ghost use Rattle.std.specs.Prelude.{◌≡◌};
@@ -9,8 +8,7 @@ ghost use Rattle.walk.specs.Walk.{walked_from};
 use layout::Layout;
 use reach::Walked;
 
-// The 3,072 words, and the addresses of the six tables in the arena's order. Two lifetimes: the borrow checker covers no caller that
-// would have to find a common one.
+// The 3,072 words, and the addresses of the six tables in the arena's order. Each has a lifetime of its own.
 #[derive(Clone, Copy)]
 pub struct Walker<'a, 'b> {
     pub words: &'a [u64],
@@ -32,7 +30,7 @@ impl<'a, 'b> Walker<'a, 'b> {
     }
 }
 
-// A walker for one address: its parameters are plain, so the borrow checker covers its callers.
+// A walker for one address, with plain parameters.
 pub fn walk(words: &[u64], tables: &[u64; Layout::TABLES], ipa: u64) -> Walked
     ensures { told_of result ≡ walked_from words.now tables.now ipa }
 {
