@@ -29,6 +29,7 @@ pub struct Dump {
 
 impl Dump {
     // Of a scene's numbers and maps; `said` is whether every line said something.
+    #[tactic(auto, using(crate::proofs::Whole::bad_pieces))]
     pub fn of(said: bool, numbers: &[u64; Layout::NUMBERS], base: &[u8], sup: &[u8]) -> Self
         ensures { pieces result.answer result.words
             ≡ printed_read (read_of said (scene numbers.now base.now sup.now)) }
@@ -63,6 +64,7 @@ impl Dump {
 }
 
 // The piece of one word, in the front of the buffer; returns its length.
+#[tactic(auto, unfolding(crate::specs::Pieces::piece_at))]
 pub fn piece(answer: Answer, words: &[u64], i: usize, out: &mut [u8; printed::LINE]) -> usize
     ensures { Puts (piece_at answer words.now i) out.old result out.new }
 {
@@ -84,6 +86,7 @@ pub fn piece(answer: Answer, words: &[u64], i: usize, out: &mut [u8; printed::LI
 }
 
 // A word past the last is 0, and has no line.
+#[tactic(auto, unfolding(crate::specs::Pieces::piece_at, crate::specs::Dump::line_at))]
 fn word_piece(words: &[u64], i: usize, out: &mut [u8; printed::LINE]) -> usize
     ensures { Puts (piece_at Words words.now i) out.old result out.new }
 {
