@@ -8,7 +8,7 @@ ghost use Rattle.annex.specs.Annex.{address_count, annex_page, AnnexAnswer, anne
 ghost use Rattle.annex.specs.Windows.{region_in, granted_over, has_slot, lower_slot, NextSlot, Sited, Placed};
 ghost use Rattle.annex.specs.Writing.{beginning, Written, Onward, Across, piece_before, ProperBegun, Sound};
 ghost use Rattle.annex.specs.Writing.{begun_length, line_at, lengthened, lower};
-ghost use Rattle.layout.specs.Size.{entries, page as pageSize, l1_span, input_limit, board_limit};
+ghost use Rattle.layout.specs.Size.{entries, page as page_size, l1_span, input_limit, board_limit};
 ghost use Rattle.refusal.specs.Table.{accepted, first};
 ghost use Rattle.rows.specs.Rows.{guard_rows};
 ghost use Rattle.runs.specs.Page.{line_length, page_of};
@@ -249,7 +249,7 @@ fn write_pieces(
     exempt: bool,
     done: Progress,
 ) -> Progress
-    requires page_size_le_size { pageSize ≤ size }
+    requires page_size_le_size { page_size ≤ size }
     requires size_bound { ipa + count * size ≤ input_limit }
     requires size_bound_2 { pa + count * size ≤ board_limit }
     requires sound { Sound done ipa }
@@ -295,7 +295,7 @@ fn write_piece(
     entry: u8,
     done: Progress,
 ) -> Progress
-    requires page_size_le_size { pageSize ≤ size }
+    requires page_size_le_size { page_size ≤ size }
     requires size_bound { ipa + size ≤ input_limit }
     requires sound { Sound done ipa }
     ensures sound_2 { Sound result (ipa + size) }
