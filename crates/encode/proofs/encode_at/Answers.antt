@@ -1,20 +1,9 @@
 -- `encode_at` meets its contract: rows 1 to 14, then the words.
 use mathlib.Core.Path.{sym, ap, ◌∙◌}
 use Rattle.accepted_facts.proofs.Guarded.{arena_guarded_facts}
-use Rattle.arena.proofs.Over.{over_same}
 use Rattle.refusal.specs.Outcome.{outcome_of}
-use Rattle.encode.specs.Encoding.{left}
 use Rattle.encode.proofs.Fits.{base_fits, supers_fit, devices_fit}
 use Rattle.encode.proofs.encode_at.Goals as goal
-
-pub returns-in_default : goal.returns-in_default
-returns-in_default c =
-    let v = c.guard_at-verdict in
-    let a = c.args in
-    record {
-      answer = v.ensures;
-      words = over_same _ _ (λ i old. ap (λ r. left (outcome_of r) a.l a.base.now a.sup.now i old) c.in_default.is);
-    }
 
 pub encode_guarded-requires : goal.encode_guarded-requires
 encode_guarded-requires c =
@@ -29,8 +18,3 @@ encode_guarded-requires c =
       supers_fit = supers_fit _ _ _ _ guarded;
       all = devices_fit _ _ _ _ guarded;
     }
-
-pub returns : goal.returns
-returns c =
-    let v = c.guard_at-verdict in
-    record { answer = sym (ap outcome_of c.in-Accepted.is) ∙ v.ensures; words = c.encode_guarded.ensures }

@@ -35,17 +35,6 @@ module _ (l : Layout) (sup : List ℕ) where
       go true e = unmapped p (eqb-true _ _ e)
       go false e = let k = fit.backed p hi (eqb-false _ _ e) in absurd (omega (arith, lo, k))
 
-pub put_supers-requires : goal.put_supers-requires
-put_supers-requires c =
-    let fit = c.requires.supers_fit in
-    let from = c.l2_index-from.ensures in
-    record {
-      arena_len = c.requires.arena_len;
-      sup_len_bound = fit.short;
-      from_lt_entries = omega (arith, from);
-      by_index = λ p h some. let k = fit.slots p h some in omega (arith, from, k);
-    }
-
 pub returns : goal.returns
 returns c =
     let l = c.args.l in

@@ -1,7 +1,7 @@
 -- `put_image` meets its contract: a block where there is an image, else none.
 use mathlib.Core.List.{List, [], ◌∷◌}
 use mathlib.Core.Path.{ap}
-use Rattle.arena.proofs.Over.{over_placed, over_there, over_absent, over_runs}
+use Rattle.arena.proofs.Over.{over_absent, over_runs}
 use Rattle.arena.specs.Encoded.{Run, one, present_run, image_run}
 use Rattle.arena.specs.Word.{image_to}
 use Rattle.layout.specs.Window.{l2_slot}
@@ -13,13 +13,6 @@ block image = one 2 (l2_slot image.ipa) (image_to image.pa)
 
 abbrev run_in : Window → List Run
 run_in image = present_run image.present (block image) ∷ []
-
-pub returns-then-image : goal.returns-then-image
-returns-then-image c =
-    let image = c.window-image.result in
-    over_runs (run_in image) (image_run c.args.l ∷ []) _ _ (ap run_in c.window-image.ensures)
-    (over_there image.present (block image) _ _ c.if-image.true
-    (over_placed 2 _ (l2_slot image.ipa) _ _ _ _ c.l2_index-index.ensures c.image_word.ensures c.put.ensures))
 
 pub returns-else-image : goal.returns-else-image
 returns-else-image c =

@@ -1,7 +1,7 @@
 -- `put_pages` meets its contract: m words of the run are stored.
 use Prim.Native.Nat.{ℕ, ◌+◌, ◌*◌, ◌≤◌}
 use mathlib.Core.List.{List}
-use mathlib.Core.Path.{refl, ◌≡◌, ap, ◌∙◌}
+use mathlib.Core.Path.{refl, ◌≡◌, ap}
 use native.Mathlib.Omega.{arith}
 use lib.ListN.{length, get_or-eq_default}
 use Rattle.arena.proofs.Over.{over_none, over_more, over_run, over_placed}
@@ -20,15 +20,6 @@ unmapped pa base p h = ap (λ (n : ℕ). leaf_for n (page_to (pa + p * page))) (
 
 pub loop-m-init : goal.loop-m-init
 loop-m-init c = over_none _ _ _ _
-
-pub put-requires : goal.put-requires
-put-requires c =
-    record {
-      arena_len = c.loop-m.invariant.long ∙ c.requires.arena_len;
-      table_nonzero = omega arith;
-      table_le_table_count = omega arith;
-      index_lt_entries = λ _. omega arith;
-    }
 
 pub loop-m-preserved : goal.loop-m-preserved
 loop-m-preserved c =
