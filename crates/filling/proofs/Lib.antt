@@ -3,4 +3,3 @@ pub mod Lengths
 pub mod Onward
 pub mod Placed
 pub mod SoFar
-pub mod Zeros

@@ -1,7 +1,7 @@
 -- `all_reached` meets its contract: no entry is too wide, or the first row is that of the entries from m on.
 use Prim.Native.Nat.{◌+◌}
 use mathlib.Core.List.{◌++◌, map}
-use mathlib.Core.Path.{◌≡◌, refl, sym, ◌∙◌}
+use mathlib.Core.Path.{◌≡◌, sym, ◌∙◌}
 use lib.ListN.{get_or, drop}
 use Rattle.authority.specs.Authority.{reach_rows}
 use Rattle.authority.proofs.Owned.{within}
@@ -44,9 +44,6 @@ returns-then-all_within c =
     let narrow = c.all_within.ensures c.if-all_within.true in
     sym (accept _ (from_nowhere rows a.leaves.now 0
     (λ m inside. within _ _ _ _ _ (rw (c.widest_entries-widest.ensures m inside) at (narrow m inside)))))
-
-pub loop-m-init : goal.loop-m-init
-loop-m-init c = refl
 
 pub returns-in_default : goal.returns-in_default
 returns-in_default c =

@@ -10,9 +10,6 @@ use Rattle.grant.specs.Grant.{grant_of}
 use Rattle.map_entries.specs.Larger.{larger}
 use Rattle.authority.proofs.widest_entries.Goals as goal
 
-pub loop-i-init : goal.loop-i-init
-loop-i-init c = (omega arith, c.own_entries-widest.ensures)
-
 pub loop-i-preserved : goal.loop-i-preserved
 loop-i-preserved c =
     let a = c.args in

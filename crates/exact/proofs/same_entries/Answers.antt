@@ -1,5 +1,5 @@
 -- `same_entries` meets its contract: no entry differs, or the first row is that of the entries from m on.
-use mathlib.Core.Path.{refl, sym, ◌∙◌}
+use mathlib.Core.Path.{sym, ◌∙◌}
 use lib.ListN.{get_or}
 use borrow.Author.Tests.{eq-eqb, ne_eqb}
 use Rattle.refusal.proofs.None.{accept, from_nowhere}
@@ -15,9 +15,6 @@ returns-then-all_same c =
     let rows = row25 a.dom (λ k. get_or a.wanted.now k 0) in
     let same = c.all_same.ensures c.if-all_same.true in
     sym (accept _ (from_nowhere rows a.leaves.now 0 (λ m inside. rw (eq-eqb _ _ (same m inside)))))
-
-pub loop-m-init : goal.loop-m-init
-loop-m-init c = refl
 
 -- the rows from m on: that of its entry, and those after it
 pub returns-then-mapped-expected : goal.returns-then-mapped-expected

@@ -1,16 +1,13 @@
 -- `leaf_map_from_edges` meets its contract: the edges from i on are placed into the maps as they are.
 use Prim.Native.Nat.{◌≤◌, ◌<◌}
 use mathlib.Core.List.{[]}
-use mathlib.Core.Path.{refl, ◌∙◌, sym, ap}
+use mathlib.Core.Path.{◌∙◌, sym, ap}
 use lib.ListN.{length, length-map, get_or-map}
 use Rattle.edge.specs.Edge.{edge_of, edges_of}
 use Rattle.filling.proofs.SoFar.{one_placed, all_placed}
 use Rattle.filling.specs.Filling.{placed_next}
 use Rattle.filling.specs.Progress.{filling_at}
 use Rattle.leafmap.proofs.leaf_map_from_edges.Goals as goal
-
-pub loop-i-init : goal.loop-i-init
-loop-i-init c = refl
 
 pub loop-i-preserved : goal.loop-i-preserved
 loop-i-preserved c =

@@ -1,11 +1,7 @@
 -- `leaf_map_from_edges` meets its contract: the edges from i on are placed into the maps as they are.
-use mathlib.Core.Path.{refl}
 use Rattle.filling.proofs.SoFar.{one_placed, all_placed}
 use Rattle.filling.specs.Progress.{filling_at}
 use Rattle.leafmap_edges.proofs.leaf_map_from_edges.Goals as goal
-
-pub loop-i-init : goal.loop-i-init
-loop-i-init c = refl
 
 pub loop-i-preserved : goal.loop-i-preserved
 loop-i-preserved c =
