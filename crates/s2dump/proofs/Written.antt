@@ -1,0 +1,38 @@
+-- Pieces that are written one after the other.
+use Rattle.std.proofs.Common.{ℕ, zero, suc, ◌+◌, ◌≡◌, arith, List, [], ◌++◌, sym, ap, ◌∙◌, take, Option, None, Some}
+use Rattle.std.proofs.lemmas.List.{append_assoc, append-nil}
+use Rattle.std.proofs.Math.Seq.{take_at}
+use Rattle.std.specs.Io.KnownBytes.{Appends}
+use Rattle.dump.specs.Dump.{in_order}
+use Rattle.printed.specs.Line.{Puts}
+
+pub nothing_written : (old : Option (List ℕ)) → Appends old old []
+nothing_written None = tt
+nothing_written (Some xs) = sym (append-nil xs)
+
+pub written :
+    (old between new : Option (List ℕ)) (xs ys : List ℕ) →
+    Appends old between xs → Appends between new ys → Appends old new (xs ++ ys)
+written None between new xs ys a b = tt
+written (Some os) None new xs ys a b = absurd a
+written (Some os) (Some bs) None xs ys a b = absurd b
+written (Some os) (Some bs) (Some ns) xs ys a b = b ∙ ap (λ zs. zs ++ ys) a ∙ append_assoc os xs ys
+
+-- one piece more
+next_piece : (text : ℕ → List ℕ) (k n : ℕ) → in_order text k (suc n) ≡ in_order text k n ++ text (k + n)
+unfolding in_order
+next_piece text k zero = let none : k ≡ k + 0 = omega arith in append-nil (text k) ∙ ap text none
+next_piece text k (suc n) =
+    let next : suc k + n ≡ k + suc n = omega arith in
+    ap (λ zs. text k ++ zs) (next_piece text (suc k) n ∙ ap (λ i. in_order text (suc k) n ++ text i) next)
+    ∙ sym (append_assoc (text k) (in_order text (suc k) n) (text (k + suc n)))
+
+pub one_more : (text : ℕ → List ℕ) (n : ℕ) → in_order text 0 (n + 1) ≡ in_order text 0 n ++ text n
+one_more text n =
+    let one : n + 1 ≡ suc n = omega arith in
+    let none : 0 + n ≡ n = omega arith in
+    ap (in_order text 0) one ∙ next_piece text 0 n ∙ ap (λ i. in_order text 0 n ++ text i) none
+
+-- what is written of the line is the piece
+pub piece_of : (text old : List ℕ) (n : ℕ) (new : List ℕ) → Puts text old n new → take n new ≡ text
+piece_of text old n new p = ap (take n) p.bytes ∙ take_at text _ n (sym p.long)
