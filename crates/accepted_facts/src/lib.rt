@@ -1,3 +1,2 @@
 // What follows where nothing is refused: definitions and theorems alone.
 #![tactic(auto)]
-

@@ -1,3 +1,2 @@
 // What is proved of the annex page: theorems alone.
 #![tactic(auto)]
-

@@ -1,3 +1,2 @@
 // What the annex page says of walks over encoded tables: theorems alone.
 #![tactic(auto)]
-

@@ -1,3 +1,2 @@
 // What walks of encoded arenas reach: theorems alone.
 #![tactic(auto)]
-

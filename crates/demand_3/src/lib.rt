@@ -1,3 +1,2 @@
 // What updates leave where they are cut: theorems alone.
 #![tactic(auto)]
-

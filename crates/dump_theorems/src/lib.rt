@@ -1,3 +1,2 @@
 // What is proved of the dump: theorems alone.
 #![tactic(auto)]
-

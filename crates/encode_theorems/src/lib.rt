@@ -1,3 +1,2 @@
 // What is proved of encoded arenas: theorems alone.
 #![tactic(auto)]
-

@@ -1,3 +1,2 @@
 // Bit fields, look-up by code: definitions alone.
 #![tactic(auto)]
-

@@ -1,3 +1,2 @@
 // What is proved of runs: theorems alone.
 #![tactic(auto)]
-

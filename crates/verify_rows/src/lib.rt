@@ -1,3 +1,2 @@
 // What verification refuses, row by row: definitions alone.
 #![tactic(auto)]
-

@@ -1,3 +1,2 @@
 // What is proved of verification: theorems alone.
 #![tactic(auto)]
-

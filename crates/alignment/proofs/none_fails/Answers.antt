@@ -23,8 +23,8 @@ loop-i-preserved c =
     let inside : c.loop-i.i < length c.args.cs = omega arith in
     let here = each_at c.args.cs c.loop-i.i (check 0 false 0 0) inside row6 in
     elim c.if-c.branch [
-      then-c w ↦ λ none. absurd (false≢true (sym w.none-is ∙ none))
-    | else-c w ↦ λ none. c.loop-i.invariant (sym w.none-is ∙ none) ∙ ap first (here ∙ quiet _ _ w.if-c.false)
+      | then-c w ↦ λ none. absurd (false≢true (sym w.none-is ∙ none))
+      | else-c w ↦ λ none. c.loop-i.invariant (sym w.none-is ∙ none) ∙ ap first (here ∙ quiet _ _ w.if-c.false)
     ]
 
 pub returns : goal.returns

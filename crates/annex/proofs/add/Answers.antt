@@ -19,8 +19,8 @@ returns-in_default-clause-onward c =
     let is = subst (Longer a.done.begun a.piece) (sym c.lengthened-longer.ensures ∙ e)
     (longer a.done.begun a.piece c.requires.proper_begun c.requires.first_le_last) in
     λ rs text old w.
-        subst (λ (b : Begun). Written text old (page_of (resumed b rs)) a.done.at a.page.now) (sym e)
-        (subst (λ (ts : List Run). Written text old (page_of ts) a.done.at a.page.now) (is.1 rs) w)
+    subst (λ (b : Begun). Written text old (page_of (resumed b rs)) a.done.at a.page.now) (sym e)
+    (subst (λ (ts : List Run). Written text old (page_of ts) a.done.at a.page.now) (is.1 rs) w)
 
 pub returns-clause-onward : goal.returns-clause-onward
 returns-clause-onward c =
@@ -28,8 +28,8 @@ returns-clause-onward c =
     let is = subst (Longer a.done.begun a.piece) (sym c.lengthened-longer.ensures ∙ c.in-Nothing.is)
     (longer a.done.begun a.piece c.requires.proper_begun c.requires.first_le_last) in
     λ rs text old w.
-        let after = closes text old a.done.begun (before a.piece rs) a.page.now a.done.at
-        (subst (λ (ts : List Run). Written text old (page_of ts) a.done.at a.page.now) (is rs) w) in
-        subst (λ (b : List ℕ). Written text old (page_of (before a.piece rs)) c.close-at.result b) (sym c.close-at.ensures.page_after)
-        (subst (λ (n : ℕ). Written text old (page_of (before a.piece rs)) n (line_at a.done.begun a.done.at a.page.now))
-        (sym c.close-at.ensures.value) after)
+    let after = closes text old a.done.begun (before a.piece rs) a.page.now a.done.at
+    (subst (λ (ts : List Run). Written text old (page_of ts) a.done.at a.page.now) (is rs) w) in
+    subst (λ (b : List ℕ). Written text old (page_of (before a.piece rs)) c.close-at.result b) (sym c.close-at.ensures.page_after)
+    (subst (λ (n : ℕ). Written text old (page_of (before a.piece rs)) n (line_at a.done.begun a.done.at a.page.now))
+    (sym c.close-at.ensures.value) after)

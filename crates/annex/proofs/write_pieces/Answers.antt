@@ -54,27 +54,27 @@ loop-p-preserved c =
     let x = a.ipa + p * a.size in
     let here = comes (goal.at.loop-p-preserved c).After-entry_at-entry in
     rw add-one (elim c.if-entry-ne0.branch [
-      then-entry-ne0 came ↦
-        let wrote = came.write_piece-done.ensures in
-        rw (came.page-is, came.done-is) (
-          test,
-          came.write_piece-done.auto.page ∙ c.loop-p.invariant.1,
-          record { few = omega (arith, wrote.sound_2.few, suc-mul p a.size); proper = wrote.sound_2.proper },
-          λ f n grants text old w.
-              wrote.onward (rest f n) text old
-              (with_runs c.loop-p.done.begun (here f n grants) (c.loop-p.invariant.3 f n grants text old w)),
-        )
-    | else-entry-ne0 came ↦
-        rw (came.page-is, came.done-is) (
-          test,
-          c.loop-p.invariant.1,
-          record { few = omega (arith, c.loop-p.invariant.2.few, suc-mul p a.size); proper = c.loop-p.invariant.2.proper },
-          λ f n grants text old w.
-              with_runs c.loop-p.done.begun
-              (here f n grants
-              ∙ ap (λ (k : ℕ). piece_before x (x + (a.size - 1)) (by_entry (a.pa + p * a.size) a.exempt k) (rest f n)) came.if-entry-ne0.false)
-              (c.loop-p.invariant.3 f n grants text old w),
-        )
+      | then-entry-ne0 came ↦
+          let wrote = came.write_piece-done.ensures in
+          rw (came.page-is, came.done-is) (
+            test,
+            came.write_piece-done.auto.page ∙ c.loop-p.invariant.1,
+            record { few = omega (arith, wrote.sound_2.few, suc-mul p a.size); proper = wrote.sound_2.proper },
+            λ f n grants text old w.
+                wrote.onward (rest f n) text old
+                (with_runs c.loop-p.done.begun (here f n grants) (c.loop-p.invariant.3 f n grants text old w)),
+          )
+      | else-entry-ne0 came ↦
+          rw (came.page-is, came.done-is) (
+            test,
+            c.loop-p.invariant.1,
+            record { few = omega (arith, c.loop-p.invariant.2.few, suc-mul p a.size); proper = c.loop-p.invariant.2.proper },
+            λ f n grants text old w.
+                with_runs c.loop-p.done.begun
+                (here f n grants
+                ∙ ap (λ (k : ℕ). piece_before x (x + (a.size - 1)) (by_entry (a.pa + p * a.size) a.exempt k) (rest f n)) came.if-entry-ne0.false)
+                (c.loop-p.invariant.3 f n grants text old w),
+          )
     ])
 
 pub returns-clause-across : goal.returns-clause-across
@@ -85,11 +85,11 @@ returns-clause-across c =
     let all : c.loop-p.p ≡ end = omega (arith, c.loop-p.invariant.0, c.loop-p-test.false, c.lower-end.ensures) in
     let size = a.size in
     λ f n grants text old w.
-        let on : ℕ → List Run = on_from f a.ipa a.count size n in
-        let some : 0 < size = omega (arith, c.requires.page_size_le_size) in
-        let gone = c.loop-p.invariant.3 f n grants text old (with_runs a.done.begun (from_first f a.ipa a.count size n) w) in
-        with_runs c.loop-p.done.begun
-        (ap on all
-        ∙ past_map f a.ipa a.count size n a.pa a.exempt a.map.now some grants
-        ∙ from_last f a.ipa a.count size n)
-        gone
+    let on : ℕ → List Run = on_from f a.ipa a.count size n in
+    let some : 0 < size = omega (arith, c.requires.page_size_le_size) in
+    let gone = c.loop-p.invariant.3 f n grants text old (with_runs a.done.begun (from_first f a.ipa a.count size n) w) in
+    with_runs c.loop-p.done.begun
+    (ap on all
+    ∙ past_map f a.ipa a.count size n a.pa a.exempt a.map.now some grants
+    ∙ from_last f a.ipa a.count size n)
+    gone

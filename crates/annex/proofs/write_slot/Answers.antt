@@ -28,6 +28,6 @@ returns-clause-by_index c =
     let none = all_of (λ w. has_slot a.s w ≡ false) no_window a.ws
     (λ k less. c.loop-i.invariant.1 k (omega (arith, less, c.loop-i-test.false))) in
     λ n text old w.
-        with_bytes (sym c.loop-i.invariant.0)
-        (with_runs a.done.begun
-        (empty_slot a.base.now a.sup.now a.exempt a.ws c.requires.placed a.s c.requires.s_lt_entries none n) w)
+    with_bytes (sym c.loop-i.invariant.0)
+    (with_runs a.done.begun
+    (empty_slot a.base.now a.sup.now a.exempt a.ws c.requires.placed a.s c.requires.s_lt_entries none n) w)

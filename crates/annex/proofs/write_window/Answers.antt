@@ -24,8 +24,8 @@ returns-in-1-clause-across c =
     let r = region w block (λ p. perm_code Rx) false in
     let is = image_region_lem a.base.now a.sup.now a.exempt w code in
     across_one a.done a.page.now c.write_piece.result _ w.ipa w.span _ w.pa false 3 (s.some not-data not-super)
-        (λ i. ap (λ v. granted_in v (w.ipa + i)) is ∙ granted_at r i)
-        c.write_piece.ensures.onward
+    (λ i. ap (λ v. granted_in v (w.ipa + i)) is ∙ granted_at r i)
+    c.write_piece.ensures.onward
 
 pub returns-in-2-clause-across : goal.returns-in-2-clause-across
 returns-in-2-clause-across c =
@@ -37,10 +37,10 @@ returns-in-2-clause-across c =
     let is = data_region_lem a.base.now a.sup.now a.exempt w code in
     let whole : w.span / page * page ≡ w.span = omega (arith, s.pages code) in
     across_same a.done a.page.now c.write_pieces.result _ w.ipa w.span _ (w.span / page * page)
-        (λ i. by_entry (w.pa + i) false (get_or a.base.now (i / page) 0))
-        whole
-        (λ i. ap (λ v. granted_in v (w.ipa + i)) is ∙ granted_at r i)
-        c.write_pieces.ensures.across
+    (λ i. by_entry (w.pa + i) false (get_or a.base.now (i / page) 0))
+    whole
+    (λ i. ap (λ v. granted_in v (w.ipa + i)) is ∙ granted_at r i)
+    c.write_pieces.ensures.across
 
 pub returns-in-3-clause-across : goal.returns-in-3-clause-across
 returns-in-3-clause-across c =
@@ -53,10 +53,10 @@ returns-in-3-clause-across c =
     let is = super_region_lem a.base.now a.sup.now a.exempt w code in
     let whole : w.span / block * block ≡ w.span = omega (arith, s.blocks not-data) in
     across_same a.done a.page.now c.write_pieces-in-3.result _ w.ipa w.span _ (w.span / block * block)
-        (λ i. by_entry (w.pa + i) a.exempt (get_or a.sup.now (i / block) 0))
-        whole
-        (λ i. ap (λ v. granted_in v (w.ipa + i)) is ∙ granted_at r i)
-        c.write_pieces-in-3.ensures.across
+    (λ i. by_entry (w.pa + i) a.exempt (get_or a.sup.now (i / block) 0))
+    whole
+    (λ i. ap (λ v. granted_in v (w.ipa + i)) is ∙ granted_at r i)
+    c.write_pieces-in-3.ensures.across
 
 pub returns-in_default-clause-across : goal.returns-in_default-clause-across
 returns-in_default-clause-across c =
@@ -68,6 +68,6 @@ returns-in_default-clause-across c =
     let not-super : w.code ≡ 3 → ⊥ = λ e. omega (arith, e) in
     let is = device_region_lem a.base.now a.sup.now a.exempt w not-image not-data not-super in
     across_one a.done a.page.now c.write_piece-in_default.result _ w.ipa w.span _ w.pa false 2
-        (s.some not-data not-super)
-        (λ i. ap (λ v. granted_in v (w.ipa + i)) is ∙ granted_at (device_region w) i)
-        c.write_piece-in_default.ensures.onward
+    (s.some not-data not-super)
+    (λ i. ap (λ v. granted_in v (w.ipa + i)) is ∙ granted_at (device_region w) i)
+    c.write_piece-in_default.ensures.onward

@@ -28,9 +28,9 @@ loop-m-preserved c =
     let a = c.args in
     let here = from_at a.base.now c.loop-m.m 0 c.loop-m-test.true (row17 a.sup.now) in
     elim c.if-base-m-ne0.branch [
-      then-base-m-ne0+else-entry_at-ne0 w ↦
-        rw (c.loop-m.invariant, here, ne_eqb _ _ w.if-base-m-ne0.true, eq-eqb _ _ (sym w.entry_at.ensures ∙ w.if-entry_at-ne0.false))
-    | else-base-m-ne0 w ↦ rw (c.loop-m.invariant, here, eq-eqb _ _ w.if-base-m-ne0.false)
+      | then-base-m-ne0+else-entry_at-ne0 w ↦
+          rw (c.loop-m.invariant, here, ne_eqb _ _ w.if-base-m-ne0.true, eq-eqb _ _ (sym w.entry_at.ensures ∙ w.if-entry_at-ne0.false))
+      | else-base-m-ne0 w ↦ rw (c.loop-m.invariant, here, eq-eqb _ _ w.if-base-m-ne0.false)
     ]
 
 pub returns : goal.returns

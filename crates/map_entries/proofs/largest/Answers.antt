@@ -13,10 +13,10 @@ loop-i-preserved c =
     let map = c.args.map.now in
     let inside = c.loop-i-test.true in
     elim c.if-most-map.branch [
-      then-most-map w ↦
-        rw w.most-is (c.loop-i.invariant ∙ taken map c.loop-i.i c.loop-i.most inside w.if-most-map.true)
-    | else-most-map w ↦
-        rw w.most-is (c.loop-i.invariant ∙ kept map c.loop-i.i c.loop-i.most inside w.if-most-map.false)
+      | then-most-map w ↦
+          rw w.most-is (c.loop-i.invariant ∙ taken map c.loop-i.i c.loop-i.most inside w.if-most-map.true)
+      | else-most-map w ↦
+          rw w.most-is (c.loop-i.invariant ∙ kept map c.loop-i.i c.loop-i.most inside w.if-most-map.false)
     ]
 
 pub returns : goal.returns

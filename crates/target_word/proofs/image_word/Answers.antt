@@ -30,10 +30,10 @@ returns c =
     let there = ap (λ (d : Window). d.present) (sym e) in
     let place = ap (λ (d : Window). l2_slot d.ipa) (sym e) in
     let none : (image.present && eqb (l2_slot image.ipa) j) ≡ false =
-        elim c.else-image.branch [
-          else-image-via-then-image+else-l2_index-j t ↦
-            not_at _ _ j (there ∙ t.if-image.true)
-            (ap (λ (n : ℕ). eqb n j) (place ∙ sym t.l2_index.ensures) ∙ ne_eqb _ _ t.if-l2_index-j.false)
-        | else-image-via-else-image t ↦ not_there _ _ j (there ∙ t.if-image.false)
-        ] in
+    elim c.else-image.branch [
+      | else-image-via-then-image+else-l2_index-j t ↦
+          not_at _ _ j (there ∙ t.if-image.true)
+          (ap (λ (n : ℕ). eqb n j) (place ∙ sym t.l2_index.ensures) ∙ ne_eqb _ _ t.if-l2_index-j.false)
+      | else-image-via-else-image t ↦ not_there _ _ j (there ∙ t.if-image.false)
+    ] in
     λ base sup. sym (in_2 c.args.l base sup j c.requires ∙ rw none)

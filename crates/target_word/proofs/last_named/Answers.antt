@@ -21,10 +21,10 @@ loop-i-preserved c =
     let a = get_or areas c.loop-i.i no_area in
     let named : Bool → ℕ = λ b. pick b (table_to a.table) c.loop-i.word in
     let same : (named c.has.result) ≡ c.if-has.word =
-        elim c.if-has.branch [
-          then-has w ↦ ap named w.if-has.true ∙ sym w.table_word-word.ensures ∙ sym w.word-is
-        | else-has w ↦ ap named w.if-has.false ∙ sym w.word-is
-        ] in
+    elim c.if-has.branch [
+      | then-has w ↦ ap named w.if-has.true ∙ sym w.table_word-word.ensures ∙ sym w.word-is
+      | else-has w ↦ ap named w.if-has.false ∙ sym w.word-is
+    ] in
     c.loop-i.invariant
     ∙ area_next areas c.loop-i.i j c.loop-i.word c.requires inside
     ∙ ap (λ (n : ℕ). stored (map area_run (drop (c.loop-i.i + 1) areas)) j n) (ap named (sym c.has.ensures) ∙ same)

@@ -31,17 +31,17 @@ loop-j-preserved c =
     let here = rest_at row entries c.loop-j.j c.loop-j-test.true in
     let skipped = c.past_zeros-j-in-loop-j.ensures.2 a.l in
     elim c.if-desc-ne0.branch [
-      then-desc-ne0+else-not-live_at t ↦
-        rw (
-          ← skipped,
-          c.loop-j.invariant,
-          here,
-          ← c.table_word-desc.ensures,
-          ne_eqb _ _ t.if-desc-ne0.true,
-          ← t.live_at.ensures,
-          t.if-not-live_at.false,
-        )
-    | else-desc-ne0 t ↦ rw (← skipped, c.loop-j.invariant, here, ← c.table_word-desc.ensures, eq-eqb _ _ t.if-desc-ne0.false)
+      | then-desc-ne0+else-not-live_at t ↦
+          rw (
+            ← skipped,
+            c.loop-j.invariant,
+            here,
+            ← c.table_word-desc.ensures,
+            ne_eqb _ _ t.if-desc-ne0.true,
+            ← t.live_at.ensures,
+            t.if-not-live_at.false,
+          )
+      | else-desc-ne0 t ↦ rw (← skipped, c.loop-j.invariant, here, ← c.table_word-desc.ensures, eq-eqb _ _ t.if-desc-ne0.false)
     ]
 
 pub returns : goal.returns
