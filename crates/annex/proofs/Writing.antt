@@ -8,7 +8,7 @@ use lib.ListN.{length, length-append}
 use lib.Seq.{paste}
 use Rattle.annex.specs.Writing.{resumed, begun_length, Written, lengthened, line_at, ProperBegun}
 use Rattle.annex.specs.declared.Begun.{Begun}
-use Rattle.annex.specs.declared.Begun.TheVariants.{Run as Going, Nothing as None}
+use Rattle.annex.specs.declared.Begun.TheVariants.{Run as Going, Nothing as NotBegun}
 use Rattle.fields.specs.Named.{pick}
 use Rattle.runs.proofs.Joined.{Proper, follows, one_before, two_before}
 use Rattle.runs.proofs.Page.{line_length_lem, last_length, page_none, page_next}
@@ -30,18 +30,18 @@ with_runs {text} {old} {at} {b} begun e w = subst (λ (rs : List Run). Written t
 -- a run that has begun, and does not go on in the first of those that follow
 abbrev pub apart : Begun → List Run → List Run
 apart (Going r) rs = r ∷ rs
-apart None rs = rs
+apart NotBegun rs = rs
 
 -- what a run does to the one that has begun
 abbrev pub Longer : Begun → Run → Begun → Type 0
 Longer b s (Going r) = ProperBegun (Going r) × ((rs : List Run) → resumed b (before s rs) ≡ before r rs)
-Longer b s None = (rs : List Run) → resumed b (before s rs) ≡ apart b (before s rs)
+Longer b s NotBegun = (rs : List Run) → resumed b (before s rs) ≡ apart b (before s rs)
 
 pub longer : (b : Begun) (s : Run) → ProperBegun b → Proper s → Longer b s (lengthened b s)
-longer None s p q = λ rs. refl
+longer NotBegun s p q = λ rs. refl
 longer (Going r) s p q = go (goes_on r s) refl
   where
-    go : (t : Bool) → goes_on r s ≡ t → Longer (Going r) s (pick t (Going (joined r s)) None)
+    go : (t : Bool) → goes_on r s ≡ t → Longer (Going r) s (pick t (Going (joined r s)) NotBegun)
     go true e =
         let next = (follows r s e).next in (omega (arith, p, q, next), one_before r s p q e)
     go false e = two_before r s e
@@ -49,11 +49,11 @@ longer (Going r) s p q = go (goes_on r s) refl
 resumed_none : (b : Begun) → resumed b [] ≡ apart b []
 unfolding before
 resumed_none (Going r) = refl
-resumed_none None = refl
+resumed_none NotBegun = refl
 
 pub one_line : (b : Begun) → begun_length b ≤ line_length
 one_line (Going r) = omega arith
-one_line None = omega arith
+one_line NotBegun = omega arith
 
 pub no_bytes : (bytes : List ℕ) → length bytes ≡ 0 → bytes ≡ []
 no_bytes [] e = refl
@@ -90,7 +90,7 @@ module _ (text old : List ℕ) where
       (b : Begun) (rs : List Run) (now : List ℕ) (at : ℕ) → Written text old (page_of (apart b rs)) at now →
       Written text old (page_of rs) (at + begun_length b) (line_at b at now)
   closes (Going r) rs now at w = line_on r rs now at w
-  closes None rs now at w =
+  closes NotBegun rs now at w =
       let none : at ≡ at + 0 = omega arith in subst (λ n. Written text old (page_of rs) n now) none w
 
   -- nothing is written yet

@@ -8,21 +8,21 @@ use Rattle.runs.specs.Runs.{run, goes_on, joined, before, runs_from}
 use Rattle.runs.specs.declared.Run.{Run}
 use Rattle.text.specs.Front.{in_front, put_at}
 use Rattle.annex.specs.declared.Begun.{Begun}
-use Rattle.annex.specs.declared.Begun.TheVariants.{Run as Going, Nothing as None}
+use Rattle.annex.specs.declared.Begun.TheVariants.{Run as Going, Nothing as NotBegun}
 use Rattle.annex.specs.declared.Progress.{Progress}
 
 -- a run that has begun, before those that follow
 abbrev pub resumed : Begun → List Run → List Run
 resumed (Going r) rs = before r rs
-resumed None rs = rs
+resumed NotBegun rs = rs
 
 -- the bytes of its line
 abbrev pub begun_length : Begun → ℕ
 begun_length (Going r) = line_length
-begun_length None = 0
+begun_length NotBegun = 0
 
 abbrev pub beginning : Progress
-beginning = record { at = 0; begun = None }
+beginning = record { at = 0; begun = NotBegun }
 
 -- in a buffer that has room for the text, its front is written; `rest` is to come
 pub record Written (text old rest : List ℕ) (at : ℕ) (now : List ℕ) : Type 0 where
@@ -46,13 +46,13 @@ Across ipa span grants p bytes q left =
 
 -- a run that has begun, as one with the next where it goes on in that; else none
 abbrev pub lengthened : Begun → Run → Begun
-lengthened (Going r) s = pick (goes_on r s) (Going (joined r s)) None
-lengthened None s = None
+lengthened (Going r) s = pick (goes_on r s) (Going (joined r s)) NotBegun
+lengthened NotBegun s = NotBegun
 
 -- the line of a run that has begun is put, where there is room for it
 abbrev pub line_at : Begun → ℕ → List ℕ → List ℕ
 line_at (Going r) at bytes = put_at (run_line r) bytes at
-line_at None at bytes = bytes
+line_at NotBegun at bytes = bytes
 
 -- some bytes of one answer, before the runs that follow
 abbrev pub piece_before : ℕ → ℕ → Reached → List Run → List Run
@@ -65,7 +65,7 @@ lower a b = pick (ltb b a) b a
 -- a run that has begun has an address
 abbrev pub ProperBegun : Begun → Type 0
 ProperBegun (Going r) = r.first ≤ r.last
-ProperBegun None = Unit
+ProperBegun NotBegun = Unit
 
 -- the bytes so far are no more than the address that is gone to, since every run has more addresses than its line has bytes: so no index
 -- leaves 64 bits

@@ -6,7 +6,7 @@ use Rattle.annex.proofs.Slots.{empty_slots}
 use Rattle.annex.proofs.Writing.{with_runs}
 use Rattle.annex.specs.Windows.{granted_over}
 use Rattle.annex.specs.Writing.{Sound}
-use Rattle.annex.specs.declared.Begun.TheVariants.{Nothing as None}
+use Rattle.annex.specs.declared.Begun.TheVariants.{Nothing as NotBegun}
 use Rattle.layout.specs.Size.{entries, l1_span, input_limit}
 use Rattle.runs.specs.Runs.{runs_from}
 use Rattle.annex.proofs.write_slots.Goals as goal
@@ -22,7 +22,7 @@ loop-s-init c =
       λ n text old w.
           let f = granted_over a.base.now a.sup.now a.exempt a.ws in
           let all : 0 + first ≡ first = omega arith in
-          with_runs None
+          with_runs NotBegun
           (empty_slots a.base.now a.sup.now a.exempt a.ws c.requires first 0 n (omega (arith, e.most))
           (λ t low less. e.none t low (omega (arith, less)))
           ∙ ap (λ (s : ℕ). runs_from f (s * l1_span) ((entries - s) * l1_span + n)) all) w,
