@@ -2,7 +2,7 @@
 #![tactic(auto)]
 
 ghost use Rattle.std.specs.Prelude.{◌≡◌, IfOk, OnErr, OnOk};
-ghost use Rattle.s2annex.specs.Input.{PutsText, PrintsText};
+ghost use Rattle.s2annex.specs.Input.{PrintsText, WritesText};
 
 use layout::Layout;
 use std::io;
@@ -14,7 +14,7 @@ fn main(rt: HostRuntime) -> io::Result<()> {
 
 // What is printed of the text that is read.
 fn print_text<R: Read, W: Write>(input: &mut R, output: &mut W) -> io::Result<()>
-    ensures { OnOk result (PrintsText (R.remaining input.old) (W.contents output.old) (W.contents output.new)) }
+    ensures { OnOk result (WritesText (R.remaining input.old) (W.contents output.old) (W.contents output.new)) }
 {
     let mut page = [0; annex::LONGEST];
     let len = read_page(input, &mut page)?;
@@ -22,7 +22,7 @@ fn print_text<R: Read, W: Write>(input: &mut R, output: &mut W) -> io::Result<()
 }
 
 fn read_page<R: Read>(input: &mut R, page: &mut [u8; annex::LONGEST]) -> io::Result<usize>
-    ensures ok { IfOk result (λ n. PutsText (R.remaining input.old) page.old n page.new) }
+    ensures ok { IfOk result (λ n. PrintsText (R.remaining input.old) page.old n page.new) }
     ensures err { OnErr result (page.new ≡ page.old) }
 {
     let mut numbers = [0; Layout::NUMBERS];

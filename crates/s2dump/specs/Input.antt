@@ -11,5 +11,5 @@ abbrev pub DumpsText : Option (List ℕ) → Dump → Type 0
 DumpsText known d = (text : List ℕ) × IsTextOf known text × (pieces d.answer d.words ≡ dump text)
 
 -- by the bytes that the reader has, and those that the writer holds at entry and exit
-abbrev pub PrintsText : Option (List ℕ) → Option (List ℕ) → Option (List ℕ) → Type 0
-PrintsText known old new = (text : List ℕ) × IsTextOf known text × Appends old new (dump text)
+abbrev pub WritesText : Option (List ℕ) → Option (List ℕ) → Option (List ℕ) → Type 0
+WritesText known old new = (text : List ℕ) × IsTextOf known text × Appends old new (dump text)

@@ -4,7 +4,7 @@
 ghost use Rattle.std.specs.Prelude.{IfOk, OnOk};
 ghost use Rattle.std.specs.Io.KnownBytes.{Appends};
 ghost use Rattle.dump.specs.Pieces.{pieces};
-ghost use Rattle.s2dump.specs.Input.{DumpsText, PrintsText};
+ghost use Rattle.s2dump.specs.Input.{DumpsText, WritesText};
 
 use dump::Dump;
 use layout::Layout;
@@ -19,7 +19,7 @@ fn main(rt: HostRuntime) -> io::Result<()> {
 
 // What is printed of the text that is read.
 fn print_text<R: Read, W: Write>(input: &mut R, output: &mut W) -> io::Result<()>
-    ensures { OnOk result (PrintsText (R.remaining input.old) (W.contents output.old) (W.contents output.new)) }
+    ensures { OnOk result (WritesText (R.remaining input.old) (W.contents output.old) (W.contents output.new)) }
 {
     let dump = read_dump(input)?;
     write_dump(&dump, output)
