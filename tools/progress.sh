@@ -14,7 +14,7 @@ show() {
     said= crate=
     while IFS= read -r line; do
         case $line in
-        'rt: chose '* | 'rt: '*': begins with what a check kept in '* | 'rt: running out/'* | 'rt: ok; '*) ;;
+        'rt: chose '* | 'rt: '*': begins with what a check kept in '* | 'rt: running out/'* | 'rt: nothing has changed since '* | 'rt: ok; '*) ;;
         'crate '*': modules loaded='*)
             # Where nothing of it was checked, it had not changed.
             case $line in
