@@ -9,12 +9,10 @@ ghost use Rattle.s2dump.specs.Input.{DumpsText, WritesText};
 use dump::Dump;
 use layout::Layout;
 use std::io;
-use std::io::{BufWriter, Read, Write};
+use std::io::{Read, Write};
 
 fn main(rt: HostRuntime) -> io::Result<()> {
-    let mut output = BufWriter::new(rt.alloc(), rt.stdout())?;
-    print_text(&mut rt.stdin(), &mut output)?;
-    output.flush()
+    print_text(&mut rt.stdin(), &mut rt.stdout())
 }
 
 // What is printed of the text that is read.

@@ -2,7 +2,7 @@
 use Rattle.std.proofs.Common.{ℕ, ◌+◌, ◌-◌, ◌^◌, ◌≤◌, ◌<◌, arith, List, [], ◌++◌, ◌≡◌, refl, sym, ap, ◌∙◌, length, Option, None, Some, false}
 use Rattle.std.specs.Prelude.{⊤, Result, Ok, Err, OnErr}
 use Rattle.std.proofs.lemmas.List.{append_assoc, append-nil, length-append}
-use Rattle.std.specs.Io.KnownBytes.{Consumes, IsAtEnd}
+use Rattle.std.specs.Io.KnownBytes.{Consumes, IsAtEnd, Keeps}
 use Rattle.scene.specs.Scene.{Scene}
 use Rattle.scene_read.specs.Input.{IsTextOf, ReadsText, LeavesText}
 use Rattle.scene_text.proofs.Kept.{stays}
@@ -65,11 +65,14 @@ bad_read (Some all) (Some left) s new text turns r e =
 
 -- a read that fails
 pub left_read :
-    (known left : Option (List ℕ)) (s new : Scene) (text line : List ℕ) (turns : ℕ) →
-    IsRead known left text turns → taken_all 36 (reading s []) text ≡ reading new line → LeavesText known s new
-left_read None left s new text line turns r e = (text, tt, (line, e))
-left_read (Some all) None s new text line turns r e = absurd r
-left_read (Some all) (Some left) s new text line turns r e = (text, (left, r.0), (line, e))
+    (known left kept : Option (List ℕ)) (s new : Scene) (text line : List ℕ) (turns : ℕ) →
+    IsRead known left text turns → Keeps left kept → taken_all 36 (reading s []) text ≡ reading new line →
+    LeavesText known kept s new
+left_read None left kept s new text line turns r k e = (text, tt, (line, e))
+left_read (Some all) None kept s new text line turns r k e = absurd r
+left_read (Some all) (Some left) None s new text line turns r k e = absurd k
+left_read (Some all) (Some left) (Some kept) s new text line turns r k e =
+    (text, r.0 ∙ ap (λ xs. text ++ xs) (sym k), (line, e))
 
 pub on_err : {T E P : Type 0} → (r : Result T E) → P → OnErr r P
 on_err (Ok x) p = tt

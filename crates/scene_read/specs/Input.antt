@@ -1,5 +1,6 @@
 -- A scene that is read from a reader.
-use Rattle.std.specs.Prelude.{ℕ, ◌-◌, ◌^◌, ◌<◌, Bool, Option, List, [], ◌++◌, ◌≡◌, length, IfSome}
+use Rattle.std.specs.Prelude.{ℕ, ◌-◌, ◌^◌, ◌<◌, Bool, Option, List, [], ◌≡◌, length, IfSome}
+use Rattle.std.specs.Io.KnownBytes.{Consumes}
 use Rattle.scene.specs.Scene.{Scene}
 use Rattle.scene_text.specs.Reading.{reading, taken_all, read_of}
 use Rattle.scene_text.specs.Text.{read_from}
@@ -12,9 +13,9 @@ IsTextOf known text = IfSome known (λ bytes. length bytes < 2 ^ 64 - 1 → text
 abbrev pub ReadsText : Option (List ℕ) → Scene → Bool → Scene → Type 0
 ReadsText known s said new = (text : List ℕ) × IsTextOf known text × (read_of said new ≡ read_from s text)
 
--- where a read fails: the scene of the lines that have ended, of the text that was read until then, in the front of the reader's bytes
-abbrev pub LeavesText : Option (List ℕ) → Scene → Scene → Type 0
-LeavesText known s new =
+-- where a read fails: the scene of the lines that have ended, of the text that was read until then and that the reader has lost
+abbrev pub LeavesText : Option (List ℕ) → Option (List ℕ) → Scene → Scene → Type 0
+LeavesText known left s new =
     (text : List ℕ)
-    × IfSome known (λ bytes. (rest : List ℕ) × (bytes ≡ text ++ rest))
+    × Consumes known left text
     × ((line : List ℕ) × (taken_all 36 (reading s []) text ≡ reading new line))

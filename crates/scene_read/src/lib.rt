@@ -17,7 +17,7 @@ pub fn read_scene<R: Read>(
     sup: &mut [u8],
 ) -> io::Result<bool>
     ensures ok { IfOk result (λ said. ReadsText (R.remaining input.old) (scene numbers.old base.old sup.old) said (scene numbers.new base.new sup.new)) }
-    ensures err { OnErr result (LeavesText (R.remaining input.old) (scene numbers.old base.old sup.old) (scene numbers.new base.new sup.new)) }
+    ensures err { OnErr result (LeavesText (R.remaining input.old) (R.remaining input.new) (scene numbers.old base.old sup.old) (scene numbers.new base.new sup.new)) }
 {
     let mut piece = [0; 4096];
     let mut line = [0; scene_text::LINE];

@@ -16,9 +16,10 @@ loop-piece-init g c = (refl, refl, ([], refl, nothing_read (g.R.Read.remaining c
 pub returns-in_err-n-clause-err : goal.returns-in_err-n-clause-err
 returns-in_err-n-clause-err g c =
     let inv = c.loop-piece.invariant in
-    let read : LeavesText (g.R.Read.remaining c.args.input.now) (scene c.args.numbers.now c.args.base.now c.args.sup.now)
+    let kept = g.R.Read.remaining c.read.new.self in
+    let read : LeavesText (g.R.Read.remaining c.args.input.now) kept (scene c.args.numbers.now c.args.base.now c.args.sup.now)
     (scene c.loop-piece.numbers c.loop-piece.base c.loop-piece.sup) =
-    left_read _ (g.R.Read.remaining c.loop-piece.input) _ _ inv.2.0 _ c.loop-piece._piece inv.2.2 inv.2.1 in
+    left_read _ (g.R.Read.remaining c.loop-piece.input) kept _ _ inv.2.0 _ c.loop-piece._piece inv.2.2 c.in_err-n.ensures.bytes inv.2.1 in
     on_err c.from_residual.result read
 
 pub returns-in_default-clause-ok : goal.returns-in_default-clause-ok
