@@ -3,3 +3,4 @@ pub mod Lengths
 pub mod Onward
 pub mod Placed
 pub mod SoFar
+pub mod Zeros
