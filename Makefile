@@ -31,7 +31,7 @@ test: ## 25 min ## the gate: rt ci, of every proof, edit, test and program, then
 
 help: ## 0 s ## lists the targets
 	@awk -F ' *## *' '/^[a-z-]+:.* ## / { sub(/:.*/, "", $$1); printf "make %-10s %-8s %s\n", $$1, $$2, $$3 }' Makefile
-	@echo "About, on two cores (-: not measured); run and test from nothing, the others where the crates are proved, which takes up to 6 min first."
+	@echo "About, on two cores, with the older kit (-: not measured); run and test from nothing, the others where the crates are proved, which takes up to 6 min first."
 
 fmt: ## 2 s ## lays out every file
 	@for crate in crates/*/; do (cd $$crate && rt fmt) || exit 1; done
