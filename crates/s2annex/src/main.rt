@@ -2,7 +2,9 @@
 #![tactic(auto)]
 
 ghost use Rattle.std.specs.Prelude.{◌≡◌, IfOk, OnErr, OnOk};
-ghost use Rattle.s2annex.specs.Input.{PrintsText, WritesText};
+ghost use Rattle.annex_text.specs.Text.{annex_text};
+ghost use Rattle.s2annex.specs.Input.{PrintsText};
+ghost use Rattle.scene_read.specs.Input.{WritesText};
 
 use layout::Layout;
 use std::io;
@@ -14,7 +16,7 @@ fn main(rt: HostRuntime) -> io::Result<()> {
 
 // What is printed of the text that is read.
 fn print_text<R: Read, W: Write>(input: &mut R, output: &mut W) -> io::Result<()>
-    ensures { OnOk result (WritesText (R.remaining input.old) (W.contents output.old) (W.contents output.new)) }
+    ensures { OnOk result (WritesText annex_text (R.remaining input.old) (W.contents output.old) (W.contents output.new)) }
 {
     let mut page = [0; annex::LONGEST];
     let len = read_page(input, &mut page)?;

@@ -4,7 +4,9 @@
 ghost use Rattle.std.specs.Prelude.{IfOk, OnOk};
 ghost use Rattle.std.specs.Io.KnownBytes.{Appends};
 ghost use Rattle.dump.specs.Pieces.{pieces};
-ghost use Rattle.s2dump.specs.Input.{DumpsText, WritesText};
+ghost use Rattle.dump.specs.Dump.{dump};
+ghost use Rattle.s2dump.specs.Input.{DumpsText};
+ghost use Rattle.scene_read.specs.Input.{WritesText};
 
 use dump::Dump;
 use layout::Layout;
@@ -17,7 +19,7 @@ fn main(rt: HostRuntime) -> io::Result<()> {
 
 // What is printed of the text that is read.
 fn print_text<R: Read, W: Write>(input: &mut R, output: &mut W) -> io::Result<()>
-    ensures { OnOk result (WritesText (R.remaining input.old) (W.contents output.old) (W.contents output.new)) }
+    ensures { OnOk result (WritesText dump (R.remaining input.old) (W.contents output.old) (W.contents output.new)) }
 {
     let dump = read_dump(input)?;
     write_dump(&dump, output)

@@ -1,6 +1,6 @@
--- A scene that is read from a reader.
+-- A scene that is read from a reader, and what is written of it.
 use Rattle.std.specs.Prelude.{ℕ, ◌-◌, ◌^◌, ◌<◌, Bool, Option, List, [], ◌≡◌, length, IfSome}
-use Rattle.std.specs.Io.KnownBytes.{Consumes}
+use Rattle.std.specs.Io.KnownBytes.{Appends, Consumes}
 use Rattle.scene.specs.Scene.{Scene}
 use Rattle.scene_text.specs.Reading.{reading, taken_all, read_of}
 use Rattle.scene_text.specs.Text.{read_from}
@@ -19,3 +19,7 @@ LeavesText known left s new =
     (text : List ℕ)
     × Consumes known left text
     × ((line : List ℕ) × (taken_all 36 (reading s []) text ≡ reading new line))
+
+-- what is printed of the text is written, by the bytes that the reader has, and those that the writer holds at entry and exit
+abbrev pub WritesText : (List ℕ → List ℕ) → Option (List ℕ) → Option (List ℕ) → Option (List ℕ) → Type 0
+WritesText printed known old new = (text : List ℕ) × IsTextOf known text × Appends old new (printed text)
