@@ -4,9 +4,9 @@
 # page and its picture are as they are shown. And make help lists every target that is no step of another.
 set -eu
 cd "$(dirname "$0")/.."
-# A note of docs/changes is of the project as its request left it, and is not held to what later ones make of it; docs/PORT.md names what is
-# gone.
-docs=$(ls docs/*.md | grep -v '/PORT\.md$')
+# A note of docs/changes is of the project as its request left it, and is not held to what later ones make of it; docs/PORT.md and
+# docs/DESIGN-PASS.md name what is gone.
+docs=$(ls docs/*.md | grep -vE '/(PORT|DESIGN-PASS)\.md$')
 pages="README.md NOTICE $docs crates/README.md oracle/README.md arm/README.md board/README.md"
 
 # says PAGE TEXT: the page has the text.
