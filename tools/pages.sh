@@ -57,7 +57,7 @@ listed=$(subjects | cut -d ' ' -f 2- | tr ' ' '\n' | sort)
 # No array is written in the code of verification (M-101): each bracket is of a lent slice or of an index into one, and of `areas` it asks
 # for one area at a time.
 verification() {
-    cat crates/verify*/src/*.rt | awk '/^ *(requires|ensures) / { clause = 1 } /^ *\{$/ { clause = 0 } !clause' | grep -vE '^ *//|ghost use|^#'
+    cat crates/verify*/src/*.rt | awk '/^ *(requires|ensures) / { clause = 1 } /^ *\{$/ { clause = 0 } !clause' | grep -vE '^ *//|ghost use|^ *#'
 }
 if verification | sed -E 's/&\[(u64|u8)\]//g; s/\b(arena|base|sup)\[//g' | grep -F '['; then
     echo "verification has an array"
@@ -93,7 +93,7 @@ counted=$(grep '^|' docs/SABOTAGE.md | grep -oP '`[a-z0-9_]+` [0-9]+(?=,| \|)' |
 says docs/SABOTAGE.md "There are $(ls crates/*/must-fail/*.edit | wc -l), in $(ls -d crates/*/must-fail | wc -l) crates"
 
 definitions=$(grep -l '^file: specs' crates/*/must-fail/*.edit | wc -l)
-contracts=$(grep -l '^file: src' crates/*/must-fail/*.edit | xargs grep -lE '^old: .*(≡|∷|\.old|\.new|\.now|\.entry|λ m|Vtcr\.Value)' | wc -l)
+contracts=$(grep -l '^file: src' crates/*/must-fail/*.edit | xargs grep -lE '^old: .*(≡|∷|\.old|\.new|\.now|\.entry|λ m|Some 0x8)' | wc -l)
 code=$(($(ls crates/*/must-fail/*.edit | wc -l) - definitions - contracts))
 says docs/SABOTAGE.md "$definitions alter a definition or a statement, $contracts a contract and $code code"
 
@@ -114,7 +114,7 @@ done
 [ ! -s target/stack ] || says board/README.md "$(cat target/stack)"
 
 # The value that board code is given.
-vtcr=$(sed -n 's/^BaleenValue = .* Value //p' crates/vtcr/specs/RoundTrip.antt)
+vtcr=$(sed -n 's/^BaleenValue = .* Some //p' crates/vtcr/specs/RoundTrip.antt)
 says board/dervhalt-s2/src/lib.rs "pub const VTCR_EL2: u64 = $vtcr;"
 says include/dervhalt_s2.h "#define S2_VTCR_EL2 $(echo "$vtcr" | tr -d _)ull"
 says board/README.md "VTCR_EL2 is $(echo "$vtcr" | tr -d _) "

@@ -18,17 +18,27 @@
 
 /^pub fn layout_of\(x: &\[u64; Layout::NUMBERS\]\)/ { numbered = 1 }
 
+# The numbers in their order, by the names that they are taken apart under.
+numbered && /^        [a-z0-9_]+,$/ && !laid {
+    sub(/,/, "", $1)
+    place[$1] = count++
+}
+
+numbered && /^    Layout \{/ { laid = 1 }
+
 # The image's presence and address.
-numbered && /GuestImage::of/ {
-    at = place($0)
-    field[at] = "has_image"
-    field[at + 1] = "guest_image_pa"
+numbered && laid && /image_of\([a-z]+, [a-z]+\),/ {
+    sub(/.*\(/, "")
+    sub(/\),/, "")
+    split($0, of, ", ")
+    field[place[of[1]]] = "has_image"
+    field[place[of[2]]] = "guest_image_pa"
     next
 }
 
-numbered && /: x\[[0-9]+\]/ {
-    sub(/:/, "", $1)
-    field[place($0)] = $1
+numbered && laid && /^        [a-z0-9_]+(: [a-z]+ .*)?,$/ {
+    sub(/[:,]+$/, "", $1)
+    field[place[NF > 1 ? $2 : $1]] = $1
 }
 
 numbered && /^}/ {
@@ -107,12 +117,6 @@ function parameter(text, pair, name, type, constant, length_of) {
         return constant number(pair[1]) " " name "[" count_of(pair[2]) "]"
     }
     return constant number(type) " *" name ", size_t " name "_len"
-}
-
-# The place of the first number that a line reads.
-function place(line) {
-    match(line, /x\[[0-9]+/)
-    return substr(line, RSTART + 2, RLENGTH - 2) + 0
 }
 
 # Of a number, hexadecimal after 0x.

@@ -1,21 +1,23 @@
 -- Over the addresses of a window: by one entry, or by the entry of each piece.
-use Prim.Native.Nat.{ℕ, ◌+◌, ◌-◌, ◌*◌, ◌/◌, ◌%◌, ◌≤◌, ◌<◌}
+use Rattle.std.specs.Prelude.{Option}
+use Rattle.reach.specs.declared.Reach.{Reach}
+use Prim.Native.Nat.{ℕ, ◌+◌, ◌-◌, ◌/◌, ◌%◌, ◌≤◌, ◌<◌}
 use mathlib.Core.Bool.{Bool, false}
 use mathlib.Core.List.{List}
-use mathlib.Core.Path.{◌≡◌, sym, ap, subst, ◌∙◌}
+use mathlib.Core.Path.{◌≡◌, ap, subst, ◌∙◌}
 use native.Mathlib.Omega.{arith}
 use lib.ListN.{get_or}
 use borrow.Author.Tests.{eq-eqb, ne_eqb}
 use Rattle.accepted_facts.specs.Accepted.{Within}
 use Rattle.annex.specs.Windows.{region_in}
-use Rattle.annex.specs.Writing.{resumed, Written, Onward, Across, piece_before}
-use Rattle.annex.specs.declared.Progress.{Progress}
+use Rattle.annex.specs.Onward.{Onward, Across}
+use Rattle.annex.specs.Writing.{resumed, Written, piece_before}
+use Rattle.annex.specs.declared.Writer.{Writer}
 use Rattle.annex.proofs.Pieces.{one_entry}
 use Rattle.layout.specs.Size.{page, block, input_limit, board_limit}
 use Rattle.layout.specs.declared.Window.{Window}
 use Rattle.perm.specs.Perm.{perm_code}
 use Rattle.perm.specs.declared.Perm.TheVariants.{Rx}
-use Rattle.reach.specs.declared.Reached.{Reached}
 use Rattle.runs.specs.Page.{page_of}
 use Rattle.runs.specs.Runs.{runs_from}
 use Rattle.runs.specs.declared.Run.{Run}
@@ -47,18 +49,17 @@ input_ends w v = omega (arith, v.below, v.inside)
 pub block_some : (span : ℕ) → span % block ≡ 0 → 0 < span → page ≤ span
 block_some span a b = omega arith
 
-module _ (p : Progress) (bytes : List ℕ) (q : Progress) (left : List ℕ) (ipa span : ℕ) (grants : ℕ → Reached) where
+module _ (p q : Writer) (ipa span : ℕ) (grants : ℕ → Option Reach) where
   pub across_one :
       (pa : ℕ) (exempt : Bool) (e : ℕ) → 0 < span → ((i : ℕ) → grants i ≡ by_entry (pa + i) exempt e) →
-      ((rs : List Run) → Onward p bytes (piece_before ipa (ipa + (span - 1)) (by_entry pa exempt e) rs) q left rs) →
-      Across ipa span grants p bytes q left
+      ((rs : List Run) → Onward p (piece_before ipa (ipa + (span - 1)) (by_entry pa exempt e) rs) q rs) → Across ipa span grants p q
   across_one pa exempt e some is onward f n granted text old w =
       onward (runs_from f (ipa + span) n) text old
-      (subst (λ (rs : List Run). Written text old (page_of (resumed p.begun rs)) p.at bytes)
+      (subst (λ (rs : List Run). Written text old (page_of (resumed p.begun rs)) p.at p.page.now)
       (one_entry f ipa span n some pa exempt e (λ i h. granted i h ∙ is i)) w)
 
   pub across_same :
-      (span₂ : ℕ) (grants₂ : ℕ → Reached) → span₂ ≡ span → ((i : ℕ) → grants i ≡ grants₂ i) →
-      Across ipa span₂ grants₂ p bytes q left → Across ipa span grants p bytes q left
+      (span₂ : ℕ) (grants₂ : ℕ → Option Reach) → span₂ ≡ span → ((i : ℕ) → grants i ≡ grants₂ i) →
+      Across ipa span₂ grants₂ p q → Across ipa span grants p q
   across_same span₂ grants₂ long is across =
-      subst (λ (s : ℕ). Across ipa s grants p bytes q left) long (λ f n granted. across f n (λ i h. granted i h ∙ is i))
+      subst (λ (s : ℕ). Across ipa s grants p q) long (λ f n granted. across f n (λ i h. granted i h ∙ is i))

@@ -1,5 +1,7 @@
 -- Addresses by one entry: they are a run, or reach nothing.
-use Prim.Native.Nat.{ℕ, suc, ◌+◌, ◌-◌, ◌*◌, ◌/◌, ◌≤◌, ◌<◌}
+use Rattle.std.specs.Prelude.{Option, Some, None}
+use Rattle.reach.specs.declared.Reach.{Reach}
+use Prim.Native.Nat.{ℕ, suc, min, ◌+◌, ◌-◌, ◌*◌, ◌/◌, ◌≤◌, ◌<◌}
 use mathlib.Core.Bool.{Bool, true, false}
 use mathlib.Core.List.{List}
 use mathlib.Core.Path.{◌≡◌, refl, sym, ap, ap₂, ◌∙◌}
@@ -7,20 +9,21 @@ use native.Mathlib.Nat.{zero-mul, suc-mul, mul-add-div_right, div-eq_of_lt, mul-
 use native.Mathlib.Omega.{arith}
 use lib.Dec.{eqb, ltb}
 use lib.ListN.{length, get_or, get_or-eq_default}
-use borrow.Author.Tests.{ltb-true}
+use borrow.Author.Tests.{ltb-true, ltb-false}
 use Rattle.fields.specs.Named.{pick}
-use Rattle.annex.specs.Writing.{piece_before, lower}
-use Rattle.reach.specs.declared.Reached.{Reached}
-use Rattle.reach.specs.declared.Reached.TheVariants.{At, Nothing}
+use Rattle.annex.specs.Writing.{piece_before}
+use Rattle.perm.specs.Perm.{perm_code, entry_named}
+use Rattle.perm.specs.declared.Perm.{Perm}
+use Rattle.perm.specs.declared.Perm.TheVariants.{Ro, Rw, Rx}
 use Rattle.runs.proofs.Pieces.{further, gap, piece}
 use Rattle.runs.specs.Runs.{run, before, runs_from}
 use Rattle.runs.specs.declared.Run.{Run}
 use Rattle.window_reach.specs.Granted.{by_entry}
 
 -- what is reached i bytes on
-abbrev moved : Reached → ℕ → Reached
-moved (At r) i = At (further r i)
-moved Nothing i = Nothing
+abbrev moved : Option Reach → ℕ → Option Reach
+moved (Some r) i = Some (further r i)
+moved None i = None
 
 by_entry_moved : (pa i : ℕ) (exempt : Bool) (e : ℕ) → by_entry (pa + i) exempt e ≡ moved (by_entry pa exempt e) i
 by_entry_moved pa i exempt e = go (eqb e 1) (eqb e 2) (eqb e 3) refl refl refl
@@ -33,39 +36,54 @@ by_entry_moved pa i exempt e = go (eqb e 1) (eqb e 2) (eqb e 3) refl refl refl
     go false false true p q r = rw (p, q, r) refl
     go false false false p q r = rw (p, q, r) refl
 
-module _ (f : ℕ → Reached) (x size n : ℕ) (some : 0 < size) where
+-- by what a byte of a map names
+pub by_named : (pa : ℕ) (exempt : Bool) (e : ℕ) (p : Perm) → entry_named e ≡ Some p → by_entry pa exempt e ≡ by_entry pa exempt (perm_code p)
+by_named pa exempt e p is = go (eqb e 1) (eqb e 2) (eqb e 3) refl refl refl is
+  where
+    go :
+        (a b c : Bool) → eqb e 1 ≡ a → eqb e 2 ≡ b → eqb e 3 ≡ c →
+        pick a (Some Ro) (pick b (Some Rw) (pick c (Some Rx) None)) ≡ Some p → by_entry pa exempt e ≡ by_entry pa exempt (perm_code p)
+    go true b c q r s t = let same : Ro ≡ p = cc in rw (q, ← same) refl
+    go false true c q r s t = let same : Rw ≡ p = cc in rw (q, r, ← same) refl
+    go false false true q r s t = let same : Rx ≡ p = cc in rw (q, r, s, ← same) refl
+    go false false false q r s t = cc
+
+pub by_unnamed : (pa : ℕ) (exempt : Bool) (e : ℕ) → entry_named e ≡ None → by_entry pa exempt e ≡ None
+by_unnamed pa exempt e is = go (eqb e 1) (eqb e 2) (eqb e 3) refl refl refl is
+  where
+    go :
+        (a b c : Bool) → eqb e 1 ≡ a → eqb e 2 ≡ b → eqb e 3 ≡ c →
+        pick a (Some Ro) (pick b (Some Rw) (pick c (Some Rx) None)) ≡ None → by_entry pa exempt e ≡ None
+    go true b c q r s t = cc
+    go false true c q r s t = cc
+    go false false true q r s t = cc
+    go false false false q r s t = rw (q, r, s) refl
+
+module _ (f : ℕ → Option Reach) (x size n : ℕ) (some : 0 < size) where
   -- by the answer at the first of them
   by_first :
-      (r : Reached) → ((i : ℕ) → i < size → f (x + i) ≡ moved r i) →
+      (r : Option Reach) → ((i : ℕ) → i < size → f (x + i) ≡ moved r i) →
       runs_from f x (size + n) ≡ piece_before x (x + (size - 1)) r (runs_from f (x + size) n)
-  by_first (At r) all =
+  by_first (Some r) all =
       let e : suc (size - 1) ≡ size = omega (arith, some) in
       ap (λ k. runs_from f x (k + n)) (sym e)
       ∙ piece f (size - 1) x n r (λ i h. all i (omega (arith, h, some)))
       ∙ ap (λ k. before (run x (x + (size - 1)) r) (runs_from f (x + k) n)) e
-  by_first Nothing all = gap f size x n all
+  by_first None all = gap f size x n all
 
   pub one_entry :
       (pa : ℕ) (exempt : Bool) (e : ℕ) → ((i : ℕ) → i < size → f (x + i) ≡ by_entry (pa + i) exempt e) →
       runs_from f x (size + n) ≡ piece_before x (x + (size - 1)) (by_entry pa exempt e) (runs_from f (x + size) n)
   one_entry pa exempt e all = by_first (by_entry pa exempt e) (λ i h. all i h ∙ by_entry_moved pa i exempt e)
 
--- the lower of two
-pub lower_first : (a b : ℕ) → lower a b ≤ a
-lower_first a b = go (ltb b a) refl
-  where
-    go : (t : Bool) → ltb b a ≡ t → pick t b a ≤ a
-    go true e = let h : b < a = ltb-true b a e in omega (arith, h)
-    go false e = omega arith
-
 pub piece_ends : (count size p : ℕ) → p < count → p * size + size ≤ count * size
 piece_ends count size p h = omega (arith, mul-le-mul_right size h, suc-mul p size)
 
 -- the runs from piece p of some on
-abbrev pub on_from : (ℕ → Reached) → ℕ → ℕ → ℕ → ℕ → ℕ → List Run
+abbrev pub on_from : (ℕ → Option Reach) → ℕ → ℕ → ℕ → ℕ → ℕ → List Run
 on_from f ipa count size n p = runs_from f (ipa + p * size) (count * size - p * size + n)
 
-module _ (f : ℕ → Reached) (ipa count size n : ℕ) where
+module _ (f : ℕ → Option Reach) (ipa count size n : ℕ) where
   pub from_first : runs_from f ipa (count * size + n) ≡ on_from f ipa count size n 0
   from_first =
       let none : ipa ≡ ipa + 0 * size = omega (arith, zero-mul size) in
@@ -102,14 +120,18 @@ module _ (f : ℕ → Reached) (ipa count size n : ℕ) where
   pub past_map :
       (pa : ℕ) (exempt : Bool) (map : List ℕ) → 0 < size →
       ((i : ℕ) → i < count * size → f (ipa + i) ≡ by_entry (pa + i) exempt (get_or map (i / size) 0)) →
-      on_from f ipa count size n (lower count (length map)) ≡ on_from f ipa count size n count
+      on_from f ipa count size n (min (length map) count) ≡ on_from f ipa count size n count
   past_map pa exempt map some grants = go (ltb (length map) count) refl
     where
-      go : (t : Bool) → ltb (length map) count ≡ t → on_from f ipa count size n (pick t (length map) count) ≡ on_from f ipa count size n count
+      go : (t : Bool) → ltb (length map) count ≡ t → on_from f ipa count size n (min (length map) count) ≡ on_from f ipa count size n count
       go true e =
           let h : length map < count = ltb-true (length map) count e in
-          none_from pa exempt (λ q. get_or map q 0) some grants (length map) (omega (arith, h)) (λ q more. get_or-eq_default map 0 more)
-      go false e = refl
+          let all : min (length map) count ≡ length map = omega (arith, h) in
+          ap (on_from f ipa count size n) all
+          ∙ none_from pa exempt (λ q. get_or map q 0) some grants (length map) (omega (arith, h)) (λ q more. get_or-eq_default map 0 more)
+      go false e =
+          let h : count ≤ length map = ltb-false (length map) count e in
+          let all : min (length map) count ≡ count = omega (arith, h) in ap (on_from f ipa count size n) all
 
   module _
       (pa : ℕ) (exempt : Bool) (entry : ℕ → ℕ) (some : 0 < size)

@@ -1,4 +1,5 @@
 -- The windows of a layout that is let by are placed, and grant what the layout grants.
+use Rattle.std.specs.Prelude.{Option, Some, None}
 use Prim.Native.Nat.{ℕ, ◌%◌, ◌<◌}
 use mathlib.Core.Bool.{true, false≢true}
 use mathlib.Core.List.{List, ◌∷◌, map}
@@ -11,8 +12,6 @@ use Rattle.annex.proofs.Across.{image_region_lem}
 use Rattle.annex.specs.Windows.{region_in, granted_over, Sited, Placed}
 use Rattle.layout.specs.Size.{block, board_limit}
 use Rattle.layout.specs.Window.{image_window, data_window, super_window, device_window, devices_of, windows_of, slot}
-use Rattle.layout.specs.declared.GuestImage.{GuestImage}
-use Rattle.layout.specs.declared.GuestImage.TheVariants.{At, Absent}
 use Rattle.layout.specs.declared.Layout.{Layout}
 use Rattle.layout.specs.declared.Window.{Window}
 use Rattle.refusal.proofs.All.{all_always, pairs_map}
@@ -23,9 +22,9 @@ blocks_sited : (w : Window) → Within board_limit w → (w.code ≡ 2 → ⊥) 
 blocks_sited w v not-data whole some =
     record { within = v; pages = λ e. absurd (not-data e); blocks = λ n. whole; some = λ n m. some }
 
-image_sited : (i : GuestImage) → Within board_limit (image_window i) → (image_window i).present ≡ true → Sited (image_window i)
-image_sited (At pa) v here = blocks_sited (image_window (At pa)) v (λ e. omega (arith, e)) refl (omega arith)
-image_sited Absent v here = absurd (false≢true here)
+image_sited : (i : Option ℕ) → Within board_limit (image_window i) → (image_window i).present ≡ true → Sited (image_window i)
+image_sited (Some pa) v here = blocks_sited (image_window (Some pa)) v (λ e. omega (arith, e)) refl (omega arith)
+image_sited None v here = absurd (false≢true here)
 
 module _ (l : Layout) (facts : Accepted board_limit l) where
   data_sited : Sited (data_window l)
@@ -61,9 +60,9 @@ module _ (l : Layout) (facts : Accepted board_limit l) where
       }
 
 -- the regions of a layout are those of its windows
-image_code : (i : GuestImage) → (image_window i).code ≡ 1
-image_code (At pa) = refl
-image_code Absent = refl
+image_code : (i : Option ℕ) → (image_window i).code ≡ 1
+image_code (Some pa) = refl
+image_code None = refl
 
 pub grants : (l : Layout) (base sup : List ℕ) → granted l base sup ≡ granted_over base sup l.sup_wx_exempt (windows_of l)
 grants l base sup =

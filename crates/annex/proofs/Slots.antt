@@ -1,23 +1,24 @@
 -- Over a slot of table 1: one window is in it, or none.
-use Prim.Native.Nat.{ℕ, zero, suc, ◌+◌, ◌-◌, ◌*◌, ◌/◌, ◌%◌, ◌≤◌, ◌<◌}
+use Rattle.std.specs.Prelude.{Option, None, Contains}
+use Rattle.reach.specs.declared.Reach.{Reach}
+use Prim.Native.Nat.{ℕ, zero, suc, ◌+◌, ◌-◌, ◌*◌, ◌≤◌, ◌<◌}
 use mathlib.Core.Bool.{Bool, true, false, ◌&&◌, false≢true}
 use mathlib.Core.List.{List, [], ◌∷◌, map}
-use mathlib.Core.Path.{◌≡◌, refl, sym, ap, ap₂, subst, ◌∙◌}
+use mathlib.Core.Path.{◌≡◌, refl, sym, ap, subst, ◌∙◌}
 use native.Mathlib.Nat.{le_of_suc-le-suc, not-suc-le-zero}
 use native.Mathlib.Omega.{arith}
-use lib.Dec.{eqb, leb, ltb}
+use lib.Dec.{eqb}
 use lib.ListN.{length, get_or}
-use borrow.Author.Tests.{eqb-true, ne_eqb, leb-true, leb-false, ltb-true, ltb-false, lt-leb, le-leb, le-ltb}
+use borrow.Author.Tests.{eqb-true, lt-leb, le-leb, le-ltb}
 use Rattle.accepted_facts.specs.Accepted.{Within}
-use Rattle.annex.specs.Windows.{region_in, granted_over, has_slot, lower_slot, Sited, Placed}
-use Rattle.annex.specs.Writing.{resumed, Written, Onward, Across}
-use Rattle.annex.specs.declared.Progress.{Progress}
+use Rattle.annex.specs.Onward.{Onward, Across}
+use Rattle.annex.specs.Windows.{region_in, granted_over, has_slot, Sited, Placed}
+use Rattle.annex.specs.Writing.{resumed, Written}
+use Rattle.annex.specs.declared.Writer.{Writer}
 use Rattle.fields.specs.Named.{pick}
 use Rattle.layout.specs.Size.{entries, l1_span, input_limit, board_limit}
 use Rattle.layout.specs.Window.{l1_slot, slot}
 use Rattle.layout.specs.declared.Window.{Window}
-use Rattle.reach.specs.declared.Reached.{Reached}
-use Rattle.reach.specs.declared.Reached.TheVariants.{Nothing}
 use Rattle.refusal.proofs.All.{all_at, all_map}
 use Rattle.refusal.specs.All.{All, AllPairs}
 use Rattle.runs.proofs.Pieces.{gap}
@@ -37,48 +38,22 @@ has s w e = go w.present (eqb (slot w) s) refl refl e
     go true false p q t = absurd (false≢true t)
     go false b p q t = absurd (false≢true t)
 
--- the lower of two slots, and what has none before it
-pub lowered :
-    (w : Window) (from next : ℕ) →
-    let r = lower_slot w from next in
-    (r ≤ next) × (from ≤ next → from ≤ r) × ((s : ℕ) → from ≤ s → s < r → has_slot s w ≡ false)
-lowered w from next = go w.present (leb from (slot w)) (ltb (slot w) next) refl refl refl
-  where
-    elsewhere_than : (s : ℕ) → (slot w ≡ s → ⊥) → has_slot s w ≡ false
-    elsewhere_than s other = absent w.present
-      where
-        absent : (p : Bool) → (p && eqb (slot w) s) ≡ false
-        absent true = ne_eqb _ _ other
-        absent false = refl
-
-    go :
-        (a b c : Bool) → w.present ≡ a → leb from (slot w) ≡ b → ltb (slot w) next ≡ c →
-        let r = pick (a && b && c) (slot w) next in
-        (r ≤ next) × (from ≤ next → from ≤ r) × ((s : ℕ) → from ≤ s → s < r → has_slot s w ≡ false)
-    go false b c p q t = (omega arith, λ h. h, λ s h k. rw p refl)
-    go true false c p q t =
-        let less : slot w < from = leb-false from (slot w) q in
-        (omega arith, λ h. h, λ s h k. elsewhere_than s (λ e. omega (arith, e, less, h)))
-    go true true false p q t =
-        let more : next ≤ slot w = ltb-false (slot w) next t in
-        (omega arith, λ h. h, λ s h k. elsewhere_than s (λ e. omega (arith, e, more, k)))
-    go true true true p q t =
-        let more : from ≤ slot w = leb-true from (slot w) q in
-        let less : slot w < next = ltb-true (slot w) next t in
-        (omega (arith, less), λ h. more, λ s h k. elsewhere_than s (λ e. omega (arith, e, k)))
-
--- one place more
-pub up_to : (P : ℕ → Type 0) (i : ℕ) → ((k : ℕ) → k < i → P k) → P i → (k : ℕ) → k < suc i → P k
-up_to P i before here k h = go (ltb k i) refl
-  where
-    go : (b : Bool) → ltb k i ≡ b → P k
-    go true e = before k (ltb-true k i e)
-    go false e = let same : i ≡ k = omega (arith, ltb-false k i e, h) in subst P same here
-
 -- by a place of its own for each
 pub all_of : {A : Type 0} (P : A → Type 0) (d : A) (xs : List A) → ((k : ℕ) → k < length xs → P (get_or xs k d)) → All P xs
 all_of P d [] each = tt
 all_of P d (x ∷ xs) each = (each 0 (omega arith), all_of P d xs (λ k h. each (suc k) (omega (arith, h))))
+
+-- the runs from a slot on
+abbrev pub slots_from : (ℕ → Option Reach) → ℕ → ℕ → List Run
+slots_from g s n = runs_from g (s * l1_span) ((entries - s) * l1_span + n)
+
+pub last_slot : (g : ℕ → Option Reach) (s n : ℕ) → s ≡ entries → slots_from g s n ≡ runs_from g input_limit n
+last_slot g s n e = let none : 0 + n ≡ n = omega arith in rw e (ap (runs_from g input_limit) none)
+
+pub one_slot : (g : ℕ → Option Reach) (s n : ℕ) → s < entries → slots_from g s n ≡ runs_from g (s * l1_span) (l1_span + ((entries - suc s) * l1_span + n))
+one_slot g s n h =
+    let one_less : (entries - s) * l1_span + n ≡ l1_span + ((entries - suc s) * l1_span + n) = omega (arith, h) in
+    ap (runs_from g (s * l1_span)) one_less
 
 module _ (base sup : List ℕ) (exempt : Bool) where
   pub region_window : (w : Window) → (region_in base sup exempt w).window ≡ w
@@ -90,7 +65,7 @@ module _ (base sup : List ℕ) (exempt : Bool) where
       go false false true p q r = rw (p, q, r) refl
       go false false false p q r = rw (p, q, r) refl
 
-  abbrev f : List Window → ℕ → Reached
+  abbrev f : List Window → ℕ → Option Reach
   f ws x = granted_over base sup exempt ws x
 
   module _ (x : ℕ) where
@@ -100,7 +75,7 @@ module _ (base sup : List ℕ) (exempt : Bool) where
     none_contain [] a = tt
     none_contain (w ∷ ws) a = (ap (λ v. contains v x) (region_window w) ∙ a.0, none_contain ws a.1)
 
-    pub no_window : (ws : List Window) → All (λ w. contains w x ≡ false) ws → f ws x ≡ Nothing
+    pub no_window : (ws : List Window) → All (λ w. contains w x ≡ false) ws → f ws x ≡ None
     no_window ws a = granted_none (map (region_in base sup exempt) ws) x (none_contain ws a)
 
     elsewhere :
@@ -135,7 +110,7 @@ module _ (base sup : List ℕ) (exempt : Bool) where
         All (λ w. w.present ≡ true → Sited w) ws →
         AllPairs (λ v w. v.present ≡ true → w.present ≡ true → slot v ≡ slot w → ⊥) ws →
         let w = get_or ws i d in
-        w.present ≡ true → slot w ≡ l1_slot x → f ws x ≡ pick (contains w x) (granted_in (region_in base sup exempt w) x) Nothing
+        w.present ≡ true → slot w ≡ l1_slot x → f ws x ≡ pick (contains w x) (granted_in (region_in base sup exempt w) x) None
     one_window [] i d h sited apart here same = absurd (not-suc-le-zero h)
     one_window (w ∷ ws) zero d h sited apart here same =
         let others = elsewhere ws sited.1 (all_map _ (λ v. has_slot (l1_slot x) v ≡ false) (λ v a. other w v here same a) ws apart.0) in
@@ -183,27 +158,27 @@ module _ (base sup : List ℕ) (exempt : Bool) where
       pub ends : ipa + span ≤ suc s * l1_span
       ends = omega (arith, within.below, within.inside, same)
 
-      at : (x : ℕ) → l1_slot x ≡ s → f ws x ≡ pick (contains w x) (granted_in (region_in base sup exempt w) x) Nothing
+      at : (x : ℕ) → l1_slot x ≡ s → f ws x ≡ pick (contains w x) (granted_in (region_in base sup exempt w) x) None
       at x e = one_window x ws i d h placed.each placed.apart here (same ∙ sym e)
 
-      before_it : (x : ℕ) → l1_slot x ≡ s → x < ipa → f ws x ≡ Nothing
+      before_it : (x : ℕ) → l1_slot x ≡ s → x < ipa → f ws x ≡ None
       before_it x e less =
           let out : contains w x ≡ false = rw (here, lt-leb _ _ less) refl in
-          at x e ∙ ap (λ b. pick b (granted_in (region_in base sup exempt w) x) Nothing) out
+          at x e ∙ ap (λ b. pick b (granted_in (region_in base sup exempt w) x) None) out
 
-      after_it : (x : ℕ) → l1_slot x ≡ s → ipa + span ≤ x → f ws x ≡ Nothing
+      after_it : (x : ℕ) → l1_slot x ≡ s → ipa + span ≤ x → f ws x ≡ None
       after_it x e more =
           let past : span ≤ x - ipa = omega (arith, more) in
           let reached : ipa ≤ x = omega (arith, more) in
           let out : contains w x ≡ false = rw (here, le-leb _ _ reached, le-ltb _ _ past) refl in
-          at x e ∙ ap (λ b. pick b (granted_in (region_in base sup exempt w) x) Nothing) out
+          at x e ∙ ap (λ b. pick b (granted_in (region_in base sup exempt w) x) None) out
 
       pub in_it : (j : ℕ) → j < span → f ws (ipa + j) ≡ granted_in (region_in base sup exempt w) (ipa + j)
       in_it j less =
           let x = ipa + j in
           let e : l1_slot x ≡ s = omega (arith, starts, ends, less, few) in
           let there = contained w x (record { there = here; from = omega arith; before = omega (arith, less) }) in
-          at x e ∙ ap (λ b. pick b (granted_in (region_in base sup exempt w) x) Nothing) there
+          at x e ∙ ap (λ b. pick b (granted_in (region_in base sup exempt w) x) None) there
 
       module _ (n : ℕ) where
         abbrev pub rest : ℕ
@@ -228,32 +203,63 @@ module _ (base sup : List ℕ) (exempt : Bool) where
             ∙ ap (λ (y : ℕ). runs_from (f ws) y n) there
 
       pub slot_across :
-          (p : Progress) (bytes : List ℕ) (q : Progress) (left : List ℕ) →
-          Across ipa span (λ j. granted_in (region_in base sup exempt w) (ipa + j)) p bytes q left →
-          (n : ℕ) → Onward p bytes (runs_from (f ws) (s * l1_span) (l1_span + n)) q left (runs_from (f ws) (suc s * l1_span) n)
-      slot_across p bytes q left across n text old wr =
-          subst (λ (rs : List Run). Written text old (page_of (resumed q.begun rs)) q.at left) (from_it n)
+          (p q : Writer) → Across ipa span (λ j. granted_in (region_in base sup exempt w) (ipa + j)) p q →
+          (n : ℕ) → Onward p (runs_from (f ws) (s * l1_span) (l1_span + n)) q (runs_from (f ws) (suc s * l1_span) n)
+      slot_across p q across n text old wr =
+          subst (λ (rs : List Run). Written text old (page_of (resumed q.begun rs)) q.at q.page.now) (from_it n)
           (across (f ws) (rest n) in_it text old
-          (subst (λ (rs : List Run). Written text old (page_of (resumed p.begun rs)) p.at bytes) (to_it n) wr))
+          (subst (λ (rs : List Run). Written text old (page_of (resumed p.begun rs)) p.at p.page.now) (to_it n) wr))
 
   -- slots without a window, one after the other
-  pub empty_slots :
+  empty_slots :
       (ws : List Window) → Placed ws → (k s n : ℕ) → s + k ≤ entries →
-      ((t : ℕ) → s ≤ t → t < s + k → All (λ w. has_slot t w ≡ false) ws) →
-      runs_from (f ws) (s * l1_span) ((entries - s) * l1_span + n) ≡ runs_from (f ws) ((s + k) * l1_span) ((entries - (s + k)) * l1_span + n)
+      ((t : ℕ) → s ≤ t → t < s + k → All (λ w. has_slot t w ≡ false) ws) → slots_from (f ws) s n ≡ slots_from (f ws) (s + k) n
   empty_slots ws placed zero s n h none =
-      let same : s ≡ s + 0 = omega arith in ap (λ (t : ℕ). runs_from (f ws) (t * l1_span) ((entries - t) * l1_span + n)) same
+      let same : s ≡ s + 0 = omega arith in ap (λ (t : ℕ). slots_from (f ws) t n) same
   empty_slots ws placed (suc k) s n h none =
-      let rest = (entries - suc s) * l1_span + n in
-      let one_less : (entries - s) * l1_span + n ≡ l1_span + rest = omega (arith, h) in
       let onward : suc s + k ≡ s + suc k = omega arith in
-      ap (runs_from (f ws) (s * l1_span)) one_less
-      ∙ empty_slot ws placed s (omega (arith, h)) (none s (omega arith) (omega arith)) rest
+      one_slot (f ws) s n (omega (arith, h))
+      ∙ empty_slot ws placed s (omega (arith, h)) (none s (omega arith) (omega arith)) ((entries - suc s) * l1_span + n)
       ∙ empty_slots ws placed k (suc s) n (omega (arith, h)) (λ t a b. none t (omega (arith, a)) (omega (arith, b)))
-      ∙ ap (λ (t : ℕ). runs_from (f ws) (t * l1_span) ((entries - t) * l1_span + n)) onward
+      ∙ ap (λ (t : ℕ). slots_from (f ws) t n) onward
+
+  pub to_slot :
+      (ws : List Window) → Placed ws → (s t n : ℕ) → s ≤ t → t ≤ entries →
+      ((u : ℕ) → s ≤ u → u < t → All (λ w. has_slot u w ≡ false) ws) → slots_from (f ws) s n ≡ slots_from (f ws) t n
+  to_slot ws placed s t n onward most none =
+      let all : s + (t - s) ≡ t = omega (arith, onward) in
+      empty_slots ws placed (t - s) s n (omega (arith, all, most)) (λ u low less. none u low (omega (arith, less, all)))
+      ∙ ap (λ (u : ℕ). slots_from (f ws) u n) all
+
+  -- over the slot of a window that is present
+  module _ (ws : List Window) (placed : Placed ws) (w : Window) (here : w.present ≡ true) (one : Contains ws w) where
+    abbrev v : Window
+    v = get_or ws one.0 w
+
+    v_here : v.present ≡ true
+    v_here = rw one.2 here
+
+    pub window_few : slot w < entries
+    window_few = omega arith
+
+    pub window_ends : w.ipa + w.span ≤ suc (slot w) * l1_span
+    window_ends =
+        subst (λ (u : Window). u.ipa + u.span ≤ suc (slot u) * l1_span) one.2
+        (ends ws placed (slot v) (omega arith) one.0 w one.1 v_here refl)
+
+    pub window_across :
+        (p q : Writer) → Across w.ipa w.span (λ i. granted_in (region_in base sup exempt w) (w.ipa + i)) p q →
+        (n : ℕ) → Onward p (slots_from (f ws) (slot w) n) q (slots_from (f ws) (suc (slot w)) n)
+    window_across p q across n =
+        subst (λ (u : Window). Onward p (slots_from (f ws) (slot u) n) q (slots_from (f ws) (suc (slot u)) n)) one.2
+        (λ text old wr.
+        slot_across ws placed (slot v) (omega arith) one.0 w one.1 v_here refl p q
+        (subst (λ (u : Window). Across u.ipa u.span (λ i. granted_in (region_in base sup exempt u) (u.ipa + i)) p q) (sym one.2) across)
+        ((entries - suc (slot v)) * l1_span + n) text old
+        (subst (λ (rs : List Run). Written text old (page_of (resumed p.begun rs)) p.at p.page.now) (one_slot (f ws) (slot v) n (omega arith)) wr))
 
   -- past the last slot
-  pub past_windows : (ws : List Window) → All (λ w. w.present ≡ true → Sited w) ws → (x : ℕ) → input_limit ≤ x → f ws x ≡ Nothing
+  pub past_windows : (ws : List Window) → All (λ w. w.present ≡ true → Sited w) ws → (x : ℕ) → input_limit ≤ x → f ws x ≡ None
   past_windows ws sited x h = no_window x ws (all_past ws sited)
     where
       all_past : (vs : List Window) → All (λ w. w.present ≡ true → Sited w) vs → All (λ w. contains w x ≡ false) vs

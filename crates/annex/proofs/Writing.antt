@@ -1,4 +1,6 @@
 -- A line that is put moves what is written on.
+use Rattle.std.specs.Prelude.{Option, Some, None}
+use Rattle.std.specs.Option.{ForSome, option_and_then}
 use Prim.Native.Nat.{ℕ, ◌+◌, ◌≤◌}
 use mathlib.Core.Bool.{Bool, true, false}
 use mathlib.Core.List.{List, [], ◌∷◌, ◌++◌, append_assoc, append-nil}
@@ -6,11 +8,9 @@ use mathlib.Core.Path.{◌≡◌, refl, sym, ap, ap₂, subst, ◌∙◌}
 use native.Mathlib.Omega.{arith}
 use lib.ListN.{length, length-append}
 use lib.Seq.{paste}
-use Rattle.annex.specs.Writing.{resumed, begun_length, Written, lengthened, line_at, ProperBegun}
-use Rattle.annex.specs.declared.Begun.{Begun}
-use Rattle.annex.specs.declared.Begun.TheVariants.{Run as Going, Nothing as NotBegun}
+use Rattle.annex.specs.Writing.{resumed, begun_length, Written, lengthened, line_at}
 use Rattle.fields.specs.Named.{pick}
-use Rattle.runs.proofs.Joined.{Proper, follows, one_before, two_before}
+use Rattle.runs.proofs.Joined.{Proper, one_before, two_before}
 use Rattle.runs.proofs.Page.{line_length_lem, last_length, page_none, page_next}
 use Rattle.runs.specs.Page.{line_length, run_line, last_line, page_of}
 use Rattle.runs.specs.Runs.{goes_on, joined, before}
@@ -23,41 +23,48 @@ pub with_bytes : {text old rest : List ℕ} {at : ℕ} {b c : List ℕ} → b �
 with_bytes {text} {old} {rest} {at} e w = subst (Written text old rest at) e w
 
 pub with_runs :
-    {text old : List ℕ} {at : ℕ} {b : List ℕ} (begun : Begun) {rs ts : List Run} → rs ≡ ts →
+    {text old : List ℕ} {at : ℕ} {b : List ℕ} (begun : Option Run) {rs ts : List Run} → rs ≡ ts →
     Written text old (page_of (resumed begun rs)) at b → Written text old (page_of (resumed begun ts)) at b
 with_runs {text} {old} {at} {b} begun e w = subst (λ (rs : List Run). Written text old (page_of (resumed begun rs)) at b) e w
 
 -- a run that has begun, and does not go on in the first of those that follow
-abbrev pub apart : Begun → List Run → List Run
-apart (Going r) rs = r ∷ rs
-apart NotBegun rs = rs
+abbrev pub apart : Option Run → List Run → List Run
+apart (Some r) rs = r ∷ rs
+apart None rs = rs
 
--- what a run does to the one that has begun
-abbrev pub Longer : Begun → Run → Begun → Type 0
-Longer b s (Going r) = ProperBegun (Going r) × ((rs : List Run) → resumed b (before s rs) ≡ before r rs)
-Longer b s NotBegun = (rs : List Run) → resumed b (before s rs) ≡ apart b (before s rs)
+module _ (r s : Run) (p : Proper r) (q : Proper s) where
+  -- as one with the next, it stands before what follows that
+  pub is_longer : (t : Run) → lengthened r s ≡ Some t → (rs : List Run) → before r (before s rs) ≡ before t rs
+  is_longer t e rs = go (goes_on r s) refl e
+    where
+      go : (b : Bool) → goes_on r s ≡ b → pick b (Some (joined r s)) None ≡ Some t → before r (before s rs) ≡ before t rs
+      go true f g = let same : joined r s ≡ t = cc in rw same at (one_before r s p q f rs)
+      go false f g = cc
 
-pub longer : (b : Begun) (s : Run) → ProperBegun b → Proper s → Longer b s (lengthened b s)
-longer NotBegun s p q = λ rs. refl
-longer (Going r) s p q = go (goes_on r s) refl
+  pub is_apart : lengthened r s ≡ None → (rs : List Run) → before r (before s rs) ≡ r ∷ before s rs
+  is_apart e rs = go (goes_on r s) refl e
+    where
+      go : (b : Bool) → goes_on r s ≡ b → pick b (Some (joined r s)) None ≡ None → before r (before s rs) ≡ r ∷ before s rs
+      go true f g = cc
+      go false f g = two_before r s f rs
+
+-- the run that has begun, as one with the next where it goes on in that
+abbrev pub Longer : Option Run → Run → Option Run → Type 0
+Longer b s (Some t) = (rs : List Run) → resumed b (before s rs) ≡ before t rs
+Longer b s None = (rs : List Run) → resumed b (before s rs) ≡ apart b (before s rs)
+
+pub longer : (b : Option Run) (s : Run) → ForSome b Proper → Proper s → Longer b s (option_and_then (λ r. lengthened r s) b)
+longer None s p q = λ rs. refl
+longer (Some r) s p q = go (lengthened r s) refl
   where
-    go : (t : Bool) → goes_on r s ≡ t → Longer (Going r) s (pick t (Going (joined r s)) NotBegun)
-    go true e =
-        let next = (follows r s e).next in (omega (arith, p, q, next), one_before r s p q e)
-    go false e = two_before r s e
+    go : (o : Option Run) → lengthened r s ≡ o → Longer (Some r) s o
+    go (Some t) e = is_longer r s (p r refl) q t e
+    go None e = is_apart r s (p r refl) q e
 
-resumed_none : (b : Begun) → resumed b [] ≡ apart b []
+resumed_none : (b : Option Run) → resumed b [] ≡ apart b []
 unfolding before
-resumed_none (Going r) = refl
-resumed_none NotBegun = refl
-
-pub one_line : (b : Begun) → begun_length b ≤ line_length
-one_line (Going r) = omega arith
-one_line NotBegun = omega arith
-
-pub no_bytes : (bytes : List ℕ) → length bytes ≡ 0 → bytes ≡ []
-no_bytes [] e = refl
-no_bytes (b ∷ bytes) e = absurd (omega (arith, e))
+resumed_none (Some r) = refl
+resumed_none None = refl
 
 module _ (text old : List ℕ) where
   pub put_on :
@@ -87,10 +94,10 @@ module _ (text old : List ℕ) where
 
   -- the line of a run that has begun, if there is one
   pub closes :
-      (b : Begun) (rs : List Run) (now : List ℕ) (at : ℕ) → Written text old (page_of (apart b rs)) at now →
+      (b : Option Run) (rs : List Run) (now : List ℕ) (at : ℕ) → Written text old (page_of (apart b rs)) at now →
       Written text old (page_of rs) (at + begun_length b) (line_at b at now)
-  closes (Going r) rs now at w = line_on r rs now at w
-  closes NotBegun rs now at w =
+  closes (Some r) rs now at w = line_on r rs now at w
+  closes None rs now at w =
       let none : at ≡ at + 0 = omega arith in subst (λ n. Written text old (page_of rs) n now) none w
 
   -- nothing is written yet
@@ -99,7 +106,7 @@ module _ (text old : List ℕ) where
 
   -- all runs are gone through: the line of the last, and the last line
   pub finishes :
-      (b : Begun) (now : List ℕ) (at : ℕ) → Written text old (page_of (resumed b [])) at now →
+      (b : Option Run) (now : List ℕ) (at : ℕ) → Written text old (page_of (resumed b [])) at now →
       Written text old [] (at + begun_length b + line_length) (put_at last_line (line_at b at now) (at + begun_length b))
   finishes b now at w =
       let left = line_at b at now in

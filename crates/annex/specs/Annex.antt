@@ -2,17 +2,14 @@
 use Rattle.std.specs.Prelude.{ℕ, ◌^◌, List, [], ◌∷◌, ◌≡◌, ltb, length}
 use Rattle.layout.specs.Size.{board_limit}
 use Rattle.layout.specs.declared.Layout.{Layout}
-use Rattle.refusal.specs.Outcome.{row_of}
 use Rattle.refusal.specs.Table.{Row, Outcome, accepted, refused, refuse_if, all_rows, first}
-use Rattle.refusal.specs.Told.{Told, told, denied, after}
+use Rattle.refusal.specs.Told.{Told, after}
 use Rattle.rows.specs.Rows.{guard_rows}
 use Rattle.runs.specs.Page.{page_of}
 use Rattle.runs.specs.Runs.{runs_from}
 use Rattle.runs.specs.declared.Run.{Run}
 use Rattle.text.specs.Front.{in_front}
 use Rattle.window_reach.specs.Granted.{granted}
-use Rattle.annex.specs.declared.Annexed.{Annexed}
-use Rattle.annex.specs.declared.Annexed.TheVariants.{Told as Tells, Refused}
 
 -- the addresses of 64 bits
 abbrev pub address_count : ℕ
@@ -49,7 +46,3 @@ annex_told buffer base sup l = after (annex_outcome buffer base sup l) (length (
 pub record AnnexAnswer (l : Layout) (base sup old : List ℕ) (answer : Told ℕ) (new : List ℕ) : Type 0 where
   pub tells : answer ≡ annex_told old base sup l
   pub buffer : new ≡ annex_left (annex_outcome old base sup l) (annex_page l base sup) old
-
-abbrev pub annex_of : Annexed → Told ℕ
-annex_of (Tells n) = told n
-annex_of (Refused r) = denied (row_of r)

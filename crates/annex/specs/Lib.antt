@@ -1,3 +1,4 @@
 pub mod Annex
+pub mod Onward
 pub mod Windows
 pub mod Writing

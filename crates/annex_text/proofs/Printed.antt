@@ -1,10 +1,10 @@
 -- What is printed, by what `annex` answers: the buffer has room for every page, so that row 27 does not apply.
-use Prim.Native.Nat.{ℕ, ◌+◌, ◌≤◌}
-use mathlib.Core.List.{List, [], ◌∷◌, ◌++◌, flat_map}
+use Prim.Native.Nat.{ℕ, ◌≤◌}
+use mathlib.Core.List.{List, [], ◌∷◌, ◌++◌, append_assoc, flat_map}
 use mathlib.Core.Path.{◌≡◌, refl, sym, ap, subst, ◌∙◌}
 use native.Mathlib.Omega.{arith}
-use lib.ListN.{length, take}
-use lib.Seq.{take-append_seam}
+use lib.ListN.{length, take, drop}
+use Rattle.std.proofs.lemmas.List.{length-take, take-append-drop, drop-append-le}
 use Rattle.annex.proofs.Rows.{fits}
 use Rattle.annex.specs.Annex.{annex_page, row27, annex_rows, annex_outcome, annex_left, AnnexAnswer}
 use Rattle.annex_text.specs.Text.{annex_by}
@@ -13,12 +13,11 @@ use Rattle.annex_theorems.specs.LongestPage.{longest_page}
 use Rattle.layout.specs.Size.{board_limit}
 use Rattle.layout.specs.declared.Layout.{Layout}
 use Rattle.printed.proofs.Front.{refused_short}
-use Rattle.printed.specs.Line.{refused_line, Puts}
+use Rattle.printed.specs.Line.{refused_line, longest, Puts}
 use Rattle.refusal.specs.Table.{Row, Outcome, accepted, refused, first}
 use Rattle.refusal.specs.Told.{told, denied, after}
 use Rattle.rows.specs.Rows.{guard_rows}
-use Rattle.text.proofs.Front.{room, put_first}
-use Rattle.text.specs.Front.{put_at}
+use Rattle.text.specs.Front.{in_front}
 
 -- by the outcome
 written :
@@ -33,18 +32,19 @@ refuses :
 refuses accepted page old r new t b = absurd (let z : ◌≡◌ {A = ℕ} 0 1 = cc in omega arith)
 refuses (refused q) page old r new t b = (cc, b)
 
--- a line that stands in the front of its own buffer, put in the front of another
-pub line_printed :
-    (text spare : List ℕ) (n : ℕ) (line old new : List ℕ) →
-    Puts text spare n line → n ≤ length old → new ≡ put_at (take n line) old 0 → Puts text old n new
-line_printed text spare n line old new p h e =
-    let front : take n line ≡ text = ap (λ (k : ℕ). take k line) p.long
-    ∙ ap (take (length text)) p.bytes
-    ∙ take-append_seam text _ in
-    let all : 0 + length text ≤ length old = omega (arith, p.long, h) in
+-- a line that is put in the front of the first bytes of a buffer stands in the front of all of them
+pub front_printed :
+    (text front old : List ℕ) (k n : ℕ) (line : List ℕ) → front ≡ take k old → length text ≤ k → k ≤ length old →
+    Puts text front n line → Puts text old n (line ++ drop k old)
+front_printed text front old k n line is short enough p =
+    let few : length text ≤ length (take k old) = omega (arith, length-take k old) in
+    let rest : drop (length text) old ≡ drop (length text) (take k old) ++ drop k old =
+    ap (drop (length text)) (sym (take-append-drop k old)) ∙ drop-append-le (length text) (take k old) (drop k old) few in
     record {
       long = p.long;
-      bytes = e ∙ ap (λ (t : List ℕ). put_at t old 0) front ∙ room text old 0 all ∙ put_first old text;
+      bytes = ap (λ (b : List ℕ). b ++ drop k old) (p.bytes ∙ ap (in_front text) is)
+          ∙ append_assoc text (drop (length text) (take k old)) (drop k old)
+          ∙ ap (λ (b : List ℕ). text ++ b) (sym rest);
     }
 
 module _ (l : Layout) (base sup old : List ℕ) (room : length old ≡ longest_page) where
@@ -74,12 +74,12 @@ module _ (l : Layout) (base sup old : List ℕ) (room : length old ≡ longest_p
 
   pub row_printed :
       (r : Row) (left : List ℕ) → AnnexAnswer l base sup old (denied r) left →
-      (spare line new : List ℕ) (n : ℕ) → Puts (refused_line r.number) spare n line → new ≡ put_at (take n line) left 0 →
-      Puts (annex_by (first rows) page) old n new
-  row_printed r left a spare line new n p e =
-      let is = refuses (first rows) page old r left
+      (front line : List ℕ) (n : ℕ) → front ≡ take longest left → Puts (refused_line r.number) front n line →
+      Puts (annex_by (first rows) page) old n (line ++ drop longest left)
+  row_printed r left a front line n is p =
+      let refuses = refuses (first rows) page old r left
       (a.tells ∙ ap (λ (o : Outcome). after o (length page)) outcome)
       (a.buffer ∙ ap (λ (o : Outcome). annex_left o page old) outcome) in
-      let few : n ≤ length old = omega (arith, p.long, refused_short r.number, enough) in
-      subst (λ (o : Outcome). Puts (annex_by o page) old n new) (sym is.0)
-      (line_printed (refused_line r.number) spare n line old new p few (e ∙ ap (λ (b : List ℕ). put_at (take n line) b 0) is.1))
+      subst (λ (b : List ℕ). Puts (annex_by (first rows) page) old n (line ++ drop longest b)) (sym refuses.1)
+      (subst (λ (o : Outcome). Puts (annex_by o page) old n (line ++ drop longest old)) (sym refuses.0)
+      (front_printed (refused_line r.number) front old longest n line (is ∙ ap (take longest) refuses.1) (refused_short r.number) (omega (arith, enough)) p))

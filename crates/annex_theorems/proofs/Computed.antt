@@ -1,4 +1,6 @@
 -- The runs of an accepted layout, computed window by window: slot by slot of table 1, and each window by its pieces.
+use Rattle.std.specs.Prelude.{Option}
+use Rattle.reach.specs.declared.Reach.{Reach}
 use Prim.Native.Nat.{ℕ, zero, suc, ◌+◌, ◌-◌, ◌*◌, ◌/◌, ◌<◌}
 use mathlib.Core.Bool.{Bool, true, false}
 use mathlib.Core.List.{List, [], ◌∷◌}
@@ -22,7 +24,6 @@ use Rattle.layout.specs.declared.Layout.{Layout}
 use Rattle.layout.specs.declared.Window.{Window}
 use Rattle.perm.specs.Perm.{perm_code}
 use Rattle.perm.specs.declared.Perm.TheVariants.{Rw, Rx}
-use Rattle.reach.specs.declared.Reached.{Reached}
 use Rattle.refusal.proofs.All.{all_at}
 use Rattle.refusal.specs.All.{All}
 use Rattle.refusal.specs.Table.{accepted, first}
@@ -63,7 +64,7 @@ all_runs base sup exempt ws s (suc n) = slot_runs base sup exempt s ws (all_runs
 
 -- over pieces
 module _
-    (f : ℕ → Reached) (ipa count size n pa : ℕ) (exempt : Bool) (entry : ℕ → ℕ) (some : 0 < size)
+    (f : ℕ → Option Reach) (ipa count size n pa : ℕ) (exempt : Bool) (entry : ℕ → ℕ) (some : 0 < size)
     (grants : (i : ℕ) → i < count * size → f (ipa + i) ≡ by_entry (pa + i) exempt (entry (i / size)))
   where
     from_piece :
@@ -83,7 +84,7 @@ module _
 module _ (base sup : List ℕ) (exempt : Bool) where
   -- over a window
   module _
-      (f : ℕ → Reached) (w : Window) (sited : Sited w) (n : ℕ)
+      (f : ℕ → Option Reach) (w : Window) (sited : Sited w) (n : ℕ)
       (granted : (j : ℕ) → j < w.span → f (w.ipa + j) ≡ granted_in (region_in base sup exempt w) (w.ipa + j))
     where
       -- by the offset, in the region that the window is
@@ -163,7 +164,7 @@ module _ (base sup : List ℕ) (exempt : Bool) where
       go false e others = rw e (others e)
 
   module _ (ws : List Window) (sites : Placed ws) where
-    abbrev f : ℕ → Reached
+    abbrev f : ℕ → Option Reach
     f = granted_over base sup exempt ws
 
     abbrev absent : Window
@@ -204,5 +205,5 @@ pub computed_runs :
     annex_runs l base sup ≡ all_runs base sup l.sup_wx_exempt (windows_of l) 0 entries
 unfolding annex_runs
 computed_runs l base sup let_by =
-    ap (λ (g : ℕ → Reached). runs_from g 0 address_count) (grants l base sup)
+    ap (λ (g : ℕ → Option Reach). runs_from g 0 address_count) (grants l base sup)
     ∙ computed base sup l.sup_wx_exempt (windows_of l) (placed l (guarded_facts board_limit base sup l let_by).layout)

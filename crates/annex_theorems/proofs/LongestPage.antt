@@ -1,4 +1,6 @@
 -- No page is longer than the longest: a window has at most as many runs as pieces, and each window is met in one slot.
+use Rattle.std.specs.Prelude.{Option, Some, None}
+use Rattle.reach.specs.declared.Reach.{Reach}
 use Prim.Native.Nat.{ℕ, zero, suc, ◌+◌, ◌-◌, ◌*◌, ◌/◌, ◌≤◌}
 use mathlib.Core.Bool.{Bool, true, false, ◌&&◌}
 use mathlib.Core.List.{List, [], ◌∷◌}
@@ -20,14 +22,10 @@ use Rattle.annex_theorems.specs.LongestPage.{image_lines, data_lines, super_line
 use Rattle.fields.specs.Named.{pick}
 use Rattle.layout.specs.Size.{entries, page, block, board_limit}
 use Rattle.layout.specs.Window.{image_window, data_window, super_window, devices_of, windows_of, slot}
-use Rattle.layout.specs.declared.GuestImage.{GuestImage}
-use Rattle.layout.specs.declared.GuestImage.TheVariants.{At, Absent}
 use Rattle.layout.specs.declared.Layout.{Layout}
 use Rattle.layout.specs.declared.Window.{Window}
 use Rattle.perm.specs.Perm.{perm_code}
 use Rattle.perm.specs.declared.Perm.TheVariants.{Rw, Rx}
-use Rattle.reach.specs.declared.Reached.{Reached}
-use Rattle.reach.specs.declared.Reached.TheVariants.{At as Reaches, Nothing}
 use Rattle.refusal.specs.All.{All}
 use Rattle.runs.proofs.Page.{line_length_lem, last_length, page_none, page_next}
 use Rattle.runs.specs.Page.{line_length, run_line, page_of}
@@ -45,9 +43,9 @@ one_more r (s ∷ rs) = go (goes_on r s) refl
     go true e = rw e (omega arith)
     go false e = rw e (omega arith)
 
-piece_more : (first last : ℕ) (r : Reached) (rs : List Run) → length (piece_before first last r rs) ≤ suc (length rs)
-piece_more first last (Reaches r) rs = one_more _ rs
-piece_more first last Nothing rs = omega arith
+piece_more : (first last : ℕ) (r : Option Reach) (rs : List Run) → length (piece_before first last r rs) ≤ suc (length rs)
+piece_more first last (Some r) rs = one_more _ rs
+piece_more first last None rs = omega arith
 
 pieces_more :
     (ipa pa size : ℕ) (exempt : Bool) (entry : ℕ → ℕ) (p n : ℕ) (rs : List Run) →
@@ -141,9 +139,9 @@ module _ (base sup : List ℕ) (exempt : Bool) where
       omega (arith, slot_more s ws (all_runs base sup exempt ws (suc s) n), all_more ws n (suc s))
 
 -- a layout's windows
-image_pieces : (i : GuestImage) → pieces (image_window i) ≡ image_lines
-image_pieces (At pa) = refl
-image_pieces Absent = refl
+image_pieces : (i : Option ℕ) → pieces (image_window i) ≡ image_lines
+image_pieces (Some pa) = refl
+image_pieces None = refl
 
 one_each : (ws : List Window) → All (λ w. pieces w ≡ 1) ws → all_from 0 ws ≤ length ws
 unfolding all_from

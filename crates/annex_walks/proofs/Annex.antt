@@ -1,4 +1,5 @@
 -- The page's theorem: what is granted is reached by walks, and the runs of what is granted are the longest.
+use Rattle.std.specs.Prelude.{Option, Some, None}
 use Prim.Native.Nat.{ℕ, suc, ◌^◌, ◌≤◌, ◌<◌}
 use mathlib.Core.Bool.{Bool, true, false}
 use mathlib.Core.List.{List}
@@ -23,8 +24,6 @@ use Rattle.layout.specs.Window.{windows_of}
 use Rattle.layout.specs.declared.Layout.{Layout}
 use Rattle.manual.specs.Translation.{allowed}
 use Rattle.reach.specs.declared.Reach.{Reach}
-use Rattle.reach.specs.declared.Reached.{Reached}
-use Rattle.reach.specs.declared.Reached.TheVariants.{At, Nothing}
 use Rattle.refusal.proofs.All.{all_map}
 use Rattle.refusal.specs.All.{All}
 use Rattle.runs.specs.declared.Run.{Run}
@@ -37,7 +36,7 @@ use Rattle.walk.specs.Walk.{walk_of}
 use Rattle.window_reach.specs.Granted.{granted}
 
 -- what addresses reach is the same: so are their runs
-exactly_of : (f g : ℕ → Reached) (rs : List Run) → ((x : ℕ) → g x ≡ f x) → LongestRuns f rs → Exactly g rs
+exactly_of : (f g : ℕ → Option Reach) (rs : List Run) → ((x : ℕ) → g x ≡ f x) → LongestRuns f rs → Exactly g rs
 exactly_of f g rs same l =
     let runs : LongestRuns g rs =
     record {
@@ -56,16 +55,16 @@ exactly_of f g rs same l =
     record { runs = runs; alone = λ ts t. one_list_of_runs g ts rs t runs }
 
 module _ (l : Layout) (base sup : List ℕ) (facts : Accepted board_limit l) where
-  abbrev f : ℕ → Reached
+  abbrev f : ℕ → Option Reach
   f = granted l base sup
 
-  past_limit : (x : ℕ) → input_limit ≤ x → f x ≡ Nothing
+  past_limit : (x : ℕ) → input_limit ≤ x → f x ≡ None
   past_limit x h =
-      ap (λ (g : ℕ → Reached). g x) (grants l base sup)
+      ap (λ (g : ℕ → Option Reach). g x) (grants l base sup)
       ∙ past_windows base sup l.sup_wx_exempt (windows_of l) (placed l facts).each x h
 
-  granted_there : (x : ℕ) (a : Reach) → f x ≡ At a → granted_over base sup l.sup_wx_exempt (windows_of l) x ≡ At a
-  granted_there x a e = sym (ap (λ (g : ℕ → Reached). g x) (grants l base sup)) ∙ e
+  granted_there : (x : ℕ) (a : Reach) → f x ≡ Some a → granted_over base sup l.sup_wx_exempt (windows_of l) x ≡ Some a
+  granted_there x a e = sym (ap (λ (g : ℕ → Option Reach). g x) (grants l base sup)) ∙ e
 
   longest : LongestRuns f (annex_runs l base sup)
   unfolding annex_runs

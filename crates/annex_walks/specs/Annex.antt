@@ -1,5 +1,7 @@
 -- Request M-100's theorem: for every accepted layout and maps the page lists exactly the addresses that walks of the encoded tables reach,
 -- as the longest runs, and nothing else.
+use Rattle.std.specs.Prelude.{Option}
+use Rattle.reach.specs.declared.Reach.{Reach}
 use Rattle.std.specs.Prelude.{ℕ, ◌<◌, List, ◌≡◌, replicate}
 use Rattle.annex.specs.Annex.{annex_runs, annex_page}
 use Rattle.arena.specs.Encoded.{target}
@@ -9,7 +11,6 @@ use Rattle.encode.specs.Encoding.{Encoding}
 use Rattle.layout.specs.Size.{board_limit, arena_length}
 use Rattle.layout.specs.declared.Layout.{Layout}
 use Rattle.manual.specs.Translation.{Machine, Access, translation, allowed}
-use Rattle.reach.specs.declared.Reached.{Reached}
 use Rattle.refusal.specs.Table.{accepted, first}
 use Rattle.rows.specs.Rows.{guard_rows}
 use Rattle.runs.specs.declared.Run.{Run}
@@ -19,7 +20,7 @@ use Rattle.walk.specs.Walk.{walk_of}
 use Rattle.window_reach.specs.Granted.{granted}
 
 -- these are the longest runs of what addresses reach, and no other list is
-pub record Exactly (f : ℕ → Reached) (rs : List Run) : Type 0 where
+pub record Exactly (f : ℕ → Option Reach) (rs : List Run) : Type 0 where
   pub runs : LongestRuns f rs
   pub alone : (ts : List Run) → LongestRuns f ts → ts ≡ rs
 

@@ -6,7 +6,8 @@ ghost use Rattle.areas.specs.Area.{area, no_area, areas_of, live_areas_of, area_
 
 use layout::{Layout, Window};
 
-// What has a word in table 1, if it is present: its first address has the slot, and the word names its table.
+// What has a word in table 1, if it is present: its first address has the slot, and the word names its table. It is present as its window is
+// (`area`), whose flag it takes over.
 #[derive(Clone, Copy)]
 pub struct Area {
     pub present: bool,
@@ -19,10 +20,7 @@ fn stored_area(l: Layout, i: usize) -> Area
     ensures { result ≡ get_or (areas_of l) i no_area }
 {
     match i {
-        0 => {
-            let image_pa = l.guest_image_pa;
-            Area::of(image_pa.window(), l.l2_code_pa)
-        }
+        0 => Area::of(l.image_window(), l.l2_code_pa),
         1 => Area::of(l.data_window(), l.l2_data_pa),
         // Not by its window, which is offered only where row 8 lets it by.
         2 => Area {

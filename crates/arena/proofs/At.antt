@@ -5,6 +5,7 @@ use mathlib.Core.List.{List, [], ◌∷◌, map}
 use mathlib.Core.Path.{◌≡◌, refl, sym, ap, ◌∙◌}
 use native.Mathlib.Omega.{arith}
 use lib.Dec.{eqb, leb, ltb}
+use Rattle.std.specs.List.{fold}
 use borrow.Author.Tests.{eqb-true, eqb-false, leb-true, ltb-true, ltb-false, ne_eqb}
 use Rattle.areas.specs.Area.{areas_of, area_slot, area_has}
 use Rattle.areas.specs.declared.Area.{Area}
@@ -101,11 +102,10 @@ single_if false t s w i old e some = ap (overwrite old) (empty t s (λ p. w) i)
 
 -- level 1 words of areas, in order: the last at an index stands
 abbrev pub last_at : List Area → ℕ → ℕ → ℕ
-last_at [] j old = old
-last_at (a ∷ xs) j old = last_at xs j (pick (area_has a j) (table_to a.table) old)
+last_at xs j old = fold (λ w a. pick (area_has a j) (table_to a.table) w) old xs
 
 -- one more: it stands where it has the index
-pub named_next :
+named_next :
     (a : Area) (xs : List Area) (i old : ℕ) → table_of i ≡ 1 →
     stored (map area_run (a ∷ xs)) i old ≡ stored (map area_run xs) i (pick (area_has a (index_of i)) (table_to a.table) old)
 unfolding stored
@@ -159,7 +159,7 @@ module _ (l : Layout) (base sup : List ℕ) (i : ℕ) where
   at_run t r one_run e =
       of_table t e ∙ ap (λ rs. stored rs i 0) one_run ∙ overwrite_zero (word_at r i)
 
-  pub at_areas : table_of i ≡ 1 → target l base sup i ≡ stored (map area_run (areas_of l)) i 0
+  at_areas : table_of i ≡ 1 → target l base sup i ≡ stored (map area_run (areas_of l)) i 0
   unfolding upper_runs leaf_runs
   at_areas t = of_table 1 t
 

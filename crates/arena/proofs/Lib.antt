@@ -1,4 +1,3 @@
 pub mod At
-pub mod Bound
 pub mod Over
 pub mod Runs

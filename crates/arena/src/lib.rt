@@ -7,7 +7,6 @@ ghost use Rattle.desc.specs.Descriptor.{page_address, block_address};
 ghost use Rattle.layout.specs.Size.{page, block};
 
 use layout::Layout;
-use perm::Perm;
 
 // What names a table.
 pub fn table_word(pa: u64) -> u64
@@ -20,11 +19,9 @@ pub fn table_word(pa: u64) -> u64
 pub fn page_word(base: u64, m: u32, entry: u8) -> u64
     ensures { result ≡ leaf_for entry (page_to (base + m * page)) }
 {
-    match entry {
-        1 => page_address(base, m) + desc::page_leaf_attrs(Perm::Ro),
-        2 => page_address(base, m) + desc::page_leaf_attrs(Perm::Rw),
-        3 => page_address(base, m) + desc::page_leaf_attrs(Perm::Rx),
-        _ => 0,
+    match perm::entry_named(entry) {
+        Some(perm) => page_address(base, m) + desc::page_leaf_attrs(perm),
+        None => 0,
     }
 }
 
@@ -32,11 +29,9 @@ pub fn page_word(base: u64, m: u32, entry: u8) -> u64
 pub fn block_word(base: u64, m: u32, exempt: bool, entry: u8) -> u64
     ensures { result ≡ leaf_for entry (block_to (base + m * block) exempt) }
 {
-    match entry {
-        1 => block_address(base, m) + desc::block_leaf_attrs(Perm::Ro, exempt),
-        2 => block_address(base, m) + desc::block_leaf_attrs(Perm::Rw, exempt),
-        3 => block_address(base, m) + desc::block_leaf_attrs(Perm::Rx, exempt),
-        _ => 0,
+    match perm::entry_named(entry) {
+        Some(perm) => block_address(base, m) + desc::block_leaf_attrs(perm, exempt),
+        None => 0,
     }
 }
 

@@ -1,13 +1,10 @@
 -- Ownership and grants, by document 01 ("Leaf maps"): rows 23 and 24 of its table.
+use Rattle.std.specs.Prelude.{Option, Some, None}
 use Rattle.std.specs.Prelude.{ℕ, Bool, true, false, not, ◌&&◌, ◌||◌, List, [], ◌∷◌, ◌++◌, eqb}
 use Rattle.grant.specs.Grant.{covers}
 use Rattle.grant.specs.declared.Grant.{Grant}
 use Rattle.p2m.specs.Frame.{owner_of}
-use Rattle.p2m.specs.declared.Owner.{Owner}
-use Rattle.p2m.specs.declared.Owner.TheVariants.{Domain, Nobody}
 use Rattle.perm.specs.Perm.{perm_writes, entry_named}
-use Rattle.perm.specs.declared.Entry.TheVariants.{Mapped, Unmapped}
-use Rattle.perm.specs.declared.Entry.{Entry}
 use Rattle.perm.specs.declared.Perm.{Perm}
 use Rattle.refusal.specs.Outcome.{refuse}
 use Rattle.refusal.specs.Table.{Row, each_from, all_rows}
@@ -20,25 +17,25 @@ has_grant [] owner dom m writes = false
 has_grant (g ∷ gs) owner dom m writes = covers owner dom m writes g || has_grant gs owner dom m writes
 
 -- the domain owns the frame, or its owner grants it; a frame that nobody owns is nobody's to grant
-abbrev pub reaches : List Grant → ℕ → ℕ → Bool → Owner → Bool
-reaches grants dom m writes (Domain owner) = eqb owner dom || has_grant grants owner dom m writes
-reaches grants dom m writes Nobody = false
+abbrev pub reaches : List Grant → ℕ → ℕ → Bool → Option ℕ → Bool
+reaches grants dom m writes (Some owner) = eqb owner dom || has_grant grants owner dom m writes
+reaches grants dom m writes None = false
 
 -- row 23: a mapped frame that the domain may not reach
-abbrev pub row23 : List Grant → ℕ → ℕ → Perm → Owner → List Row
+abbrev pub row23 : List Grant → ℕ → ℕ → Perm → Option ℕ → List Row
 row23 grants dom m perm owner = refuse (not (reaches grants dom m false owner)) (UnauthorizedMapping dom m owner perm)
 
 -- row 24: a frame mapped for writing that the domain may reach for reading alone
-abbrev pub row24 : List Grant → ℕ → ℕ → Perm → Owner → List Row
-row24 grants dom m perm (Domain owner) =
-    let o = Domain owner in
+abbrev pub row24 : List Grant → ℕ → ℕ → Perm → Option ℕ → List Row
+row24 grants dom m perm (Some owner) =
+    let o = Some owner in
     refuse (perm_writes perm && reaches grants dom m false o && not (reaches grants dom m true o)) (WriteEscalation dom m owner)
-row24 grants dom m perm Nobody = []
+row24 grants dom m perm None = []
 
 -- an unmapped entry reaches no frame
-unfoldable pub owner_rows : List Grant → ℕ → ℕ → Entry → Owner → List Row
-owner_rows grants dom m (Mapped perm) owner = row23 grants dom m perm owner ++ row24 grants dom m perm owner
-owner_rows grants dom m Unmapped owner = []
+unfoldable pub owner_rows : List Grant → ℕ → ℕ → Option Perm → Option ℕ → List Row
+owner_rows grants dom m (Some perm) owner = row23 grants dom m perm owner ++ row24 grants dom m perm owner
+owner_rows grants dom m None owner = []
 
 -- an entry, by its frame; at most one of the two applies
 unfoldable pub reach_rows : List (List ℕ) → List Grant → ℕ → ℕ → ℕ → List Row

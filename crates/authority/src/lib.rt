@@ -1,117 +1,95 @@
 // Whether a domain may reach every frame that a map maps (hv-s2's check.rs).
 #![tactic(auto)]
 
-ghost use Rattle.std.specs.Prelude.{ℕ, min, ◌≤◌, ◌<◌, true, List, [], map, ◌≡◌, length, get_or};
+ghost use Rattle.std.specs.Prelude.{ℕ, ◌≤◌, ◌<◌, List, [], map, ◌≡◌, length, get_or};
 ghost use Rattle.authority.specs.Authority.{reach_rows, authority_rows};
-ghost use Rattle.authority.specs.Widest.{widest_at, widest_by, asked};
-ghost use Rattle.edge.specs.Edge.{owned_by};
-ghost use Rattle.fields.specs.Named.{pick};
+ghost use Rattle.authority.specs.Widest.{widest_at, own_by, widest_by, asked, all_within, held_rows, noted};
 ghost use Rattle.grant.specs.Grant.{grant_of};
-ghost use Rattle.grant.specs.declared.Grant.{Grant};
 ghost use Rattle.layout.specs.Size.{entries};
-ghost use Rattle.map_entries.specs.Larger.{larger};
-ghost use Rattle.p2m.specs.Frame.{owner_named};
-ghost use Rattle.perm.specs.Perm.{perm_code};
-ghost use Rattle.perm.specs.declared.Perm.TheVariants.{Rw};
-ghost use Rattle.refusal.specs.Outcome.{outcome_of, row_of};
-ghost use Rattle.refusal.specs.Table.{refused, first, each_from};
-ghost use Rattle.refusal.specs.declared.Refusal.TheVariants.{UnauthorizedMapping};
+ghost use Rattle.p2m.specs.Frame.{owner_of};
+ghost use Rattle.refusal.specs.Outcome.{outcome_of};
+ghost use Rattle.refusal.specs.Table.{first, each_from};
 
 use grant::Grant;
 use layout::Layout;
-use p2m::Owner;
-use perm::{Entry, Perm};
-use refusal::{Refusal, Verdict};
+use perm::Perm;
+use refusal::{Refusal, first};
 
 // Each mapped frame is the domain's own, or granted by its owner for the mapped access. Grants are rows of their four fields.
+#[tactic(auto, using(refusal::proofs::Sequence::in_turn, lent_rows::proofs::Read::read_length), unfolding(crate::specs::Authority::authority_rows))]
 pub fn check_authorized_with(
     dom: u16,
     leaves: &[u8],
     frames: &[[u32; 2]],
     grants: &[[u32; 4]],
-) -> Verdict
+) -> Result<(), Refusal>
     ensures { outcome_of result ≡ first
         (authority_rows frames.now (map grant_of grants.now) dom leaves.now) }
 {
-    let readable = lent_rows::read_map(1, leaves);
-    let Verdict::Accepted = readable else {
-        return readable;
-    };
-    // A map that maps nothing needs no frame looked up.
-    if map_entries::largest(leaves) == 0 {
-        return Verdict::Accepted;
-    }
+    lent_rows::read_map(1, leaves)?;
     all_reached(dom, leaves, frames, grants)
 }
 
 // Rows 23 and 24, of every entry. The pass that finds no frame has no branch to take, and an authorized map needs no other.
-fn all_reached(dom: u16, leaves: &[u8], frames: &[[u32; 2]], grants: &[[u32; 4]]) -> Verdict
+#[tactic(auto, using(crate::proofs::Owned::none_mapped))]
+fn all_reached(
+    dom: u16,
+    leaves: &[u8],
+    frames: &[[u32; 2]],
+    grants: &[[u32; 4]],
+) -> Result<(), Refusal>
     requires { length leaves.now ≤ entries }
     ensures { outcome_of result ≡ first
         (each_from (reach_rows frames.now (map grant_of grants.now) dom) 0 leaves.now) }
 {
-    let widest = widest_entries(dom, leaves.len(), frames, grants);
+    // A map that maps nothing needs no frame looked up.
+    if map_entries::largest(leaves) == 0 {
+        return Ok(());
+    }
+    let widest = widest_entries(dom, frames, grants);
     if all_within(leaves, &widest) {
-        return Verdict::Accepted;
+        return Ok(());
     }
-    for m in 0..leaves.len() {
-        let verdict = reached(dom, m as u32, leaves[m], widest[m], frames);
-        let Verdict::Accepted = verdict else {
-            return verdict;
-        };
-    }
-    Verdict::Accepted
+    first::each_from(leaves, |m, entry| {
+        held(dom, m, entry, widest.get(m).copied().unwrap_or(0), frames)
+    })
 }
 
-// Rows 23 and 24, of one entry, by the widest that its frame may have.
-fn reached(dom: u16, mfn: u32, entry: u8, widest: u8, frames: &[[u32; 2]]) -> Verdict
-    ensures { (grants : List Grant) → widest ≡ widest_at frames.now grants dom mfn
-        → outcome_of result ≡ first (reach_rows frames.now grants dom mfn entry) }
+// Rows 23 and 24, of one entry, by the widest that its frame may have. Where reading is granted, the entry was for writing.
+#[tactic(auto, unfolding(refusal::specs::Table::first))]
+fn held(dom: u16, m: usize, entry: u8, widest: u8, frames: &[[u32; 2]]) -> Result<(), Refusal>
+    ensures { outcome_of result ≡ first (held_rows widest dom m entry (owner_of frames.now m)) }
 {
+    let Some(perm) = perm::entry_named(entry) else {
+        return Ok(());
+    };
     if asked(entry) <= widest {
-        return Verdict::Accepted;
+        return Ok(());
     }
-    let Entry::Mapped(perm) = Entry::of(entry) else {
-        return Verdict::Accepted;
-    };
-    let found = p2m::owner_of(frames, mfn);
-    let Owner::Domain(owner) = found else {
-        return unauthorized(dom, mfn, found, perm);
-    };
-    if widest == 0 {
-        return unauthorized(dom, mfn, found, perm);
+    match frames.get(m).and_then(|frame| p2m::owner_named(frame[0])) {
+        Some(owner) if widest != 0 => Err(Refusal::WriteEscalation {
+            dom: dom as u64,
+            mfn: m as u64,
+            owner: owner as u64,
+        }),
+        owner => Err(Refusal::UnauthorizedMapping {
+            dom: dom as u64,
+            mfn: m as u64,
+            owner,
+            perm,
+        }),
     }
-    // Where reading is granted, the entry was for writing.
-    Verdict::Refused(Refusal::WriteEscalation {
-        dom: dom as u64,
-        mfn: mfn as u64,
-        owner: owner as u64,
-    })
-}
-
-fn unauthorized(dom: u16, mfn: u32, owner: Owner, perm: Perm) -> Verdict
-    ensures { outcome_of result ≡ refused (row_of (UnauthorizedMapping dom mfn owner perm)) }
-{
-    Verdict::Refused(Refusal::UnauthorizedMapping {
-        dom: dom as u64,
-        mfn: mfn as u64,
-        owner,
-        perm,
-    })
 }
 
 fn all_within(leaves: &[u8], widest: &[u8]) -> bool
-    requires { length leaves.now ≤ length widest.now }
-    ensures { result ≡ true → (m : ℕ) → m < length leaves.now
-        → asked (get_or leaves.now m 0) ≤ get_or widest.now m 0 }
+    ensures { result ≡ all_within leaves.now widest.now }
 {
-    let mut within = true;
-    for m in 0..leaves.len() {
-        if widest[m] < asked(leaves[m]) {
-            within = false;
-        }
-    }
-    within
+    leaves
+        .iter()
+        .zip(widest)
+        .fold(true, |within, (entry, most)| {
+            within & (asked(*entry) <= *most)
+        })
 }
 
 // Execution is granted with reading.
@@ -125,72 +103,54 @@ fn asked(entry: u8) -> u8
 }
 
 // The widest entry of each frame of a map, in one pass over the grants, where the Rust goes through them once for each frame.
-fn widest_entries(
-    dom: u16,
-    count: usize,
-    frames: &[[u32; 2]],
-    grants: &[[u32; 4]],
-) -> [u8; Layout::ENTRIES]
-    requires { count ≤ entries }
-    ensures { (m : ℕ) → m < count → get_or result m 0 ≡ widest_at frames.now (map grant_of grants.now) dom m }
+fn widest_entries(dom: u16, frames: &[[u32; 2]], grants: &[[u32; 4]]) -> [u8; Layout::ENTRIES]
+    ensures { (m : ℕ) → m < entries → get_or result m 0 ≡ widest_at frames.now (map grant_of grants.now) dom m }
 {
-    let mut widest = own_entries(dom, count, frames);
-    for i in 0..grants.len() {
-        note(&mut widest, Grant::of(grants[i]), dom, frames);
+    let mut widest = own_entries(dom, frames);
+    for g in grants {
+        note(&mut widest, Grant::from(*g), dom, frames);
     }
     widest
 }
 
 // Before any grant: the domain's own frames. `edge::owns` would look for the list's end at each frame, and this loop has no branch.
-fn own_entries(dom: u16, count: usize, frames: &[[u32; 2]]) -> [u8; Layout::ENTRIES]
-    requires { count ≤ entries }
-    ensures { (m : ℕ) → m < count → get_or result m 0 ≡ widest_at frames.now [] dom m }
+fn own_entries(dom: u16, frames: &[[u32; 2]]) -> [u8; Layout::ENTRIES]
+    ensures { (m : ℕ) → m < entries → get_or result m 0 ≡ widest_at frames.now [] dom m }
 {
-    let mut widest = [0u8; Layout::ENTRIES];
-    for m in 0..lesser(count, frames.len()) {
-        widest[m] = own_entry(dom, frames[m][0]);
+    let mut widest = [0; Layout::ENTRIES];
+    let listed = &frames[..frames.len().min(Layout::ENTRIES)];
+    for (m, frame) in listed.iter().enumerate() {
+        widest[m] = own_entry(dom, *frame);
     }
     widest
 }
 
 // A domain's number is its owner number.
-fn own_entry(dom: u16, owner: u32) -> u8
-    ensures { result ≡ pick (owned_by dom (owner_named owner)) (perm_code Rw) 0 }
+fn own_entry(dom: u16, frame: [u32; 2]) -> u8
+    ensures { result ≡ own_by dom frame }
 {
-    if owner == dom as u32 {
+    if frame[0] == dom as u32 {
         return Perm::Rw.code();
     }
     0
 }
 
-fn lesser(a: usize, b: usize) -> usize
-    ensures { result ≡ min a b }
-{
-    if a < b {
-        return a;
-    }
-    b
-}
-
 // After one grant more, which takes nothing back.
 fn note(widest: &mut [u8], g: Grant, dom: u16, frames: &[[u32; 2]])
-    ensures { (m : ℕ) → m < length widest.old
-        → get_or widest.new m 0 ≡ larger (get_or widest.old m 0) (widest_by frames.now dom m g) }
+    ensures { widest.new ≡ noted frames.now dom widest.old g }
 {
     let frame = g.frame as usize;
     if frame < widest.len() {
-        let granted = granted_entry(g, dom, frames);
-        if widest[frame] < granted {
-            widest[frame] = granted;
-        }
+        widest[frame] = widest[frame].max(granted_entry(g, dom, frames));
     }
 }
 
 // The widest entry of a grant's own frame by that grant alone. What nobody owns nobody can grant.
+#[tactic(auto, unfolding(crate::specs::Widest::widest_by))]
 fn granted_entry(g: Grant, dom: u16, frames: &[[u32; 2]]) -> u8
     ensures { result ≡ widest_by frames.now dom g.frame g }
 {
-    let Owner::Domain(owner) = p2m::owner_of(frames, g.frame) else {
+    let Some(owner) = p2m::owner_of(frames, g.frame) else {
         return 0;
     };
     if g.covers(owner, dom, g.frame, true) {

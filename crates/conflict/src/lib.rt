@@ -1,59 +1,41 @@
 // Row 17 of document 01's table: a frame in both maps (hv-s2's leafmap.rs).
 #![tactic(auto)]
 
-ghost use Rattle.std.specs.Prelude.{ℕ, min, [], ◌≡◌, length, get_or};
-ghost use Rattle.conflict.specs.Conflict.{row17};
+ghost use Rattle.std.specs.Prelude.{◌≡◌};
+ghost use Rattle.conflict.specs.Conflict.{row17, largest_shared};
 ghost use Rattle.refusal.specs.Outcome.{outcome_of};
 ghost use Rattle.refusal.specs.Table.{first, each_from};
 
-use refusal::{Refusal, Verdict};
+use refusal::{Refusal, first};
 
 // Row 17: a frame has one span, or it would need two places in memory. The pass that finds no frame has no branch to take, and most
 // maps need no other.
-pub fn no_conflict(base: &[u8], sup: &[u8]) -> Verdict
+#[tactic(auto, using(crate::proofs::Both::none_shared))]
+pub fn no_conflict(base: &[u8], sup: &[u8]) -> Result<(), Refusal>
     ensures { outcome_of result ≡ first (each_from (row17 sup.now) 0 base.now) }
 {
-    if overlap(base, sup) == 0 {
-        return Verdict::Accepted;
+    if largest_shared(base, sup) == 0 {
+        return Ok(());
     }
-    for m in 0..base.len() {
-        if base[m] != 0 {
-            if map_entries::entry_at(sup, m) != 0 {
-                return Verdict::Refused(Refusal::SpanConflict { mfn: m as u64 });
-            }
-        }
-    }
-    Verdict::Accepted
+    first::each_from(base, |m, entry| in_one(sup, m, entry))
 }
 
-// Zero only if no frame has an entry in both maps.
-fn overlap(base: &[u8], sup: &[u8]) -> u8
-    ensures { result ≡ 0 → (m : ℕ) → row17 sup.now m (get_or base.now m 0) ≡ [] }
+// Of one entry of the base map.
+#[tactic(auto, unfolding(crate::specs::Conflict::row17, refusal::specs::Table::first))]
+fn in_one(sup: &[u8], m: usize, entry: u8) -> Result<(), Refusal>
+    ensures { outcome_of result ≡ first (row17 sup.now m entry) }
 {
-    let mut most = 0;
-    for m in 0..shared_len(base, sup) {
-        let both = lesser(base[m], sup[m]);
-        if most < both {
-            most = both;
-        }
+    if entry != 0 && map_entries::entry_at(sup, m) != 0 {
+        return Err(Refusal::SpanConflict { mfn: m as u64 });
     }
-    most
+    Ok(())
 }
 
-fn shared_len(base: &[u8], sup: &[u8]) -> usize
-    ensures { result ≡ min (length base.now) (length sup.now) }
+// The largest of the lesser of each frame's two entries: zero only if no frame has an entry in both maps.
+fn largest_shared(base: &[u8], sup: &[u8]) -> u8
+    ensures { result ≡ largest_shared base.now sup.now }
 {
-    if base.len() < sup.len() {
-        return base.len();
-    }
-    sup.len()
-}
-
-fn lesser(a: u8, b: u8) -> u8
-    ensures { result ≡ min a b }
-{
-    if a < b {
-        return a;
-    }
-    b
+    base.iter()
+        .zip(sup)
+        .fold(0, |most, (b, s)| most.max((*b).min(*s)))
 }

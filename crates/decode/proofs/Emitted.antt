@@ -1,4 +1,5 @@
 -- Emitted words decode to what was joined, since an aligned address leaves the fields below it and bit 54 alone.
+use Rattle.std.specs.Prelude.{Some}
 use Prim.Native.Nat.{ℕ, ◌+◌, ◌*◌, ◌/◌, ◌^◌, ◌<◌}
 use mathlib.Core.Bool.{Bool, true, false}
 use mathlib.Core.Path.{◌≡◌, refl, subst, ap}
@@ -16,9 +17,6 @@ use Rattle.perm.specs.declared.Perm.TheVariants.{Ro, Rw, Rx}
 use Rattle.perm.specs.declared.Perm.{Perm}
 use Rattle.decode.specs.Decoded.{decoded_page, decoded_block, decoded_table, decoded_device, leaf_at, access_named}
 use Rattle.decode.specs.Emitted.{EmittedDecodes, Output, leaf_with}
-use Rattle.decode.specs.declared.Access.TheVariants.{Perm as Grants}
-use Rattle.decode.specs.declared.DecodedBlock.TheVariants.{Device}
-use Rattle.decode.specs.declared.DecodedTable.TheVariants.{At}
 
 -- what holds of every multiple of the alignment below 2 ^ 48 holds of every output
 module _ (P : ℕ → Type 0) (pa : ℕ) where
@@ -33,7 +31,7 @@ never d true e = ap (λ (n : ℕ). eqb n 1) e
 never d false e = ap (λ (n : ℕ). eqb n 1) e
 
 -- a word with these fields decodes to the leaf of its address
-module _ (pa d : ℕ) (a : AccessXn) (reads : access_named (s2ap_of a.access) ≡ Grants a.access) where
+module _ (pa d : ℕ) (a : AccessXn) (reads : access_named (s2ap_of a.access) ≡ Some a.access) where
   leaf_at_lem : s2ap d ≡ s2ap_of a.access → xn d ≡ bit a.xn → leaf_at pa d ≡ leaf_with pa a
   leaf_at_lem s x = simp (s, reads, never d a.xn x)
 
@@ -73,23 +71,23 @@ device_block pa =
     from_blocks (λ (x : ℕ). decoded_block (x + device_word) ≡ leaf_with x read_write) pa
     (λ q h. block_at _ (q * 2 ^ 21 + device_word) _ refl (omega arith) (omega arith) (omega arith) (omega arith))
 
-table_at : (pa d : ℕ) → descriptor_type d ≡ table_type → page_address d ≡ pa → decoded_table d ≡ At pa
+table_at : (pa d : ℕ) → descriptor_type d ≡ table_type → page_address d ≡ pa → decoded_table d ≡ Some pa
 table_at pa d t e = simp (eq-eqb _ _ t, e)
 
-table_decodes : (pa : ℕ) → Output 12 pa → decoded_table (pa + table_word) ≡ At pa
+table_decodes : (pa : ℕ) → Output 12 pa → decoded_table (pa + table_word) ≡ Some pa
 table_decodes pa =
-    from_pages (λ (x : ℕ). decoded_table (x + table_word) ≡ At x) pa
+    from_pages (λ (x : ℕ). decoded_table (x + table_word) ≡ Some x) pa
     (λ q h. table_at _ (q * 2 ^ 12 + table_word) (omega arith) (omega arith))
 
 device_at_lem :
     (pa d : ℕ) →
     descriptor_type d ≡ block_type →
-    mem_attr d ≡ 0 → block_address d ≡ pa → xn d ≡ 1 → decoded_device d ≡ Device (record { pa = pa; xn = true })
+    mem_attr d ≡ 0 → block_address d ≡ pa → xn d ≡ 1 → decoded_device d ≡ Some (record { pa = pa; xn = true })
 device_at_lem pa d t m e x = simp (eq-eqb _ _ t, m, e, x)
 
-device_decodes : (pa : ℕ) → Output 21 pa → decoded_device (pa + device_word) ≡ Device (record { pa = pa; xn = true })
+device_decodes : (pa : ℕ) → Output 21 pa → decoded_device (pa + device_word) ≡ Some (record { pa = pa; xn = true })
 device_decodes pa =
-    from_blocks (λ (x : ℕ). decoded_device (x + device_word) ≡ Device (record { pa = x; xn = true })) pa
+    from_blocks (λ (x : ℕ). decoded_device (x + device_word) ≡ Some (record { pa = x; xn = true })) pa
     (λ q h. device_at_lem _ (q * 2 ^ 21 + device_word) (omega arith) (omega arith) (omega arith) (omega arith))
 
 pub emitted_decodes : EmittedDecodes

@@ -1,18 +1,17 @@
 -- A decoded leaf's output address lies below 2^48: a descriptor holds no other.
+use Rattle.std.specs.Prelude.{Option, Some, None}
+use Rattle.perm.specs.declared.Perm.{Perm}
 use Prim.Native.Nat.{ℕ, ◌^◌, ◌<◌}
 use mathlib.Core.Bool.{Bool, true, false}
 use native.Mathlib.Omega.{arith}
 use lib.Dec.{eqb}
 use Rattle.decode.specs.Decoded.{access_of, leaf_of, output_of, decoded_page, decoded_block}
-use Rattle.decode.specs.declared.Access.{Access}
-use Rattle.decode.specs.declared.Access.TheVariants.{Perm as Grants, Nothing as NoAccess}
-use Rattle.decode.specs.declared.DecodedLeaf.TheVariants.{Nothing as NoLeaf}
 use Rattle.desc.specs.Descriptor.{descriptor_type, block_type, page_type, execute_never, page_address, block_address}
 use Rattle.fields.specs.Named.{pick}
 
-below : (b : Bool) (pa : ℕ) (never : Bool) (a : Access) → pa < 2 ^ 48 → output_of (pick b (leaf_of pa never a) NoLeaf) < 2 ^ 48
-below true pa never (Grants p) h = h
-below true pa never NoAccess h = omega arith
+below : (b : Bool) (pa : ℕ) (never : Bool) (a : Option Perm) → pa < 2 ^ 48 → output_of (pick b (leaf_of pa never a) None) < 2 ^ 48
+below true pa never (Some p) h = h
+below true pa never None h = omega arith
 below false pa never a h = omega arith
 
 pub page_below : (d : ℕ) → output_of (decoded_page d) < 2 ^ 48

@@ -8,7 +8,7 @@ ghost use Rattle.decode.specs.Decoded.{access_of, leaf_at, decoded_page, decoded
 use perm::Perm;
 
 // What a page or block descriptor means.
-#[derive(Clone, Copy)]
+#[derive(Clone, Copy, PartialEq, Eq)]
 pub struct Decoded {
     pub pa: u64,
     pub perm: Perm,
@@ -16,90 +16,66 @@ pub struct Decoded {
 }
 
 // What a device block descriptor means.
-#[derive(Clone, Copy)]
+#[derive(Clone, Copy, PartialEq, Eq)]
 pub struct DecodedDevice {
     pub pa: u64,
     pub xn: bool,
 }
 
-#[derive(Clone, Copy)]
-pub enum DecodedLeaf {
-    Leaf(Decoded),
-    Nothing,
-}
-
-#[derive(Clone, Copy)]
-pub enum DecodedTable {
-    At(u64),
-    Nothing,
-}
-
-#[derive(Clone, Copy)]
-pub enum DecodedBlock {
-    Device(DecodedDevice),
-    Nothing,
-}
-
-#[derive(Clone, Copy)]
-enum Access {
-    Perm(Perm),
-    Nothing,
-}
-
 // A level 3 page.
-pub fn decode_page(d: u64) -> DecodedLeaf
+pub fn decode_page(d: u64) -> Option<Decoded>
     ensures { result ≡ decoded_page d }
 {
     if d % 4 != desc::PAGE {
-        return DecodedLeaf::Nothing;
+        return None;
     }
     leaf_at(page_address(d), d)
 }
 
 // A level 2 block.
-pub fn decode_block(d: u64) -> DecodedLeaf
+pub fn decode_block(d: u64) -> Option<Decoded>
     ensures { result ≡ decoded_block d }
 {
     if d % 4 != desc::BLOCK {
-        return DecodedLeaf::Nothing;
+        return None;
     }
     leaf_at(block_address(d), d)
 }
 
 // The table that a level 1 or level 2 word names.
-pub fn decode_table(d: u64) -> DecodedTable
+pub fn decode_table(d: u64) -> Option<u64>
     ensures { result ≡ decoded_table d }
 {
     if d % 4 != desc::TABLE {
-        return DecodedTable::Nothing;
+        return None;
     }
-    DecodedTable::At(page_address(d))
+    Some(page_address(d))
 }
 
 // A block whose MemAttr is Device-nGnRnE: a Normal block is none.
-pub fn decode_device_block(d: u64) -> DecodedBlock
+pub fn decode_device_block(d: u64) -> Option<DecodedDevice>
     ensures { result ≡ decoded_device d }
 {
     if d % 4 != desc::BLOCK {
-        return DecodedBlock::Nothing;
+        return None;
     }
     if d / 4 % 16 != 0 {
-        return DecodedBlock::Nothing;
+        return None;
     }
-    DecodedBlock::Device(DecodedDevice {
+    Some(DecodedDevice {
         pa: block_address(d),
         xn: execute_never(d),
     })
 }
 
 // The leaf that a word of the right type is, if it has an access.
-fn leaf_at(pa: u64, d: u64) -> DecodedLeaf
+fn leaf_at(pa: u64, d: u64) -> Option<Decoded>
     ensures { result ≡ leaf_at pa d }
 {
-    let Access::Perm(perm) = decode_perm(d) else {
-        return DecodedLeaf::Nothing;
+    let Some(perm) = decode_perm(d) else {
+        return None;
     };
-    DecodedLeaf::Leaf(Decoded {
+    Some(Decoded {
         pa,
         perm,
         xn: execute_never(d),
@@ -107,13 +83,13 @@ fn leaf_at(pa: u64, d: u64) -> DecodedLeaf
 }
 
 // S2AP: 11 and 01. 00 and 10 give no access here.
-fn decode_perm(d: u64) -> Access
+fn decode_perm(d: u64) -> Option<Perm>
     ensures { result ≡ access_of d }
 {
     match d / 64 % 4 {
-        0b11 => Access::Perm(Perm::Rw),
-        0b01 => Access::Perm(Perm::Ro),
-        _ => Access::Nothing,
+        0b11 => Some(Perm::Rw),
+        0b01 => Some(Perm::Ro),
+        _ => None,
     }
 }
 

@@ -1,4 +1,5 @@
 -- The leaf word of an entry: none, or what the entry grants.
+use Rattle.std.specs.Prelude.{None}
 use Prim.Native.Nat.{ℕ, ◌+◌}
 use mathlib.Core.Bool.{Bool, true, false}
 use mathlib.Core.Path.{◌≡◌, refl, sym, subst}
@@ -14,13 +15,12 @@ use Rattle.desc.specs.declared.AccessXn.{AccessXn}
 use Rattle.perm.specs.Perm.{perm_code}
 use Rattle.perm.specs.declared.Perm.TheVariants.{Ro, Rw, Rx}
 use Rattle.perm.specs.declared.Perm.{Perm}
-use Rattle.reach.specs.declared.Reached.TheVariants.{Nothing}
 use Rattle.window_reach.specs.Granted.{reach_at, by_entry}
 use Rattle.demand_2.proofs.Leaves.{PageLeaf, BlockLeaf, page_leaf, block_leaf, device_leaf}
 
 -- a word by an entry: 0 where the entry grants nothing, or a leaf of what it grants
 pub data Entry (Leaf : ℕ → ℕ → AccessXn → Type 0) (d pa : ℕ) (exempt : Bool) (e : ℕ) : Type 0 where
-  unmapped : d ≡ 0 → ((out : ℕ) → by_entry out exempt e ≡ Nothing) → Entry Leaf d pa exempt e
+  unmapped : d ≡ 0 → ((out : ℕ) → by_entry out exempt e ≡ None) → Entry Leaf d pa exempt e
   mapped : (a : AccessXn) → Leaf d pa a → ((out : ℕ) → by_entry out exempt e ≡ reach_at out a) → Entry Leaf d pa exempt e
 
 -- an entry stands for a permission, or for none

@@ -7,7 +7,7 @@ use lib.Dec.{eqb}
 use Rattle.decode.proofs.Emitted.{emitted_decodes}
 use Rattle.decode.specs.Decoded.{decoded_page, decoded_block}
 use Rattle.decode.specs.Emitted.{Output, leaf_with}
-use Rattle.desc.specs.Descriptor.{descriptor_type, block_type, page_type, af, xn, page_address, block_address}
+use Rattle.desc.specs.Descriptor.{descriptor_type, block_type, page_type, af, page_address, block_address}
 use Rattle.desc.specs.WordFields.{read_write}
 use Rattle.desc.specs.Words.{page_word, block_word, device_word, leaf_access_xn}
 use Rattle.desc.specs.declared.AccessXn.{AccessXn}

@@ -1,4 +1,5 @@
 -- What is granted lies in an output window, where no table begins and so, both being whole pages, no byte of one stands.
+use Rattle.std.specs.Prelude.{Option, Some, None}
 use Prim.Native.Nat.{ℕ, ◌+◌, ◌-◌, ◌/◌, ◌%◌, ◌≤◌, ◌<◌}
 use mathlib.Core.Bool.{Bool, true, false, false≢true}
 use mathlib.Core.List.{List, [], ◌∷◌, flat_map}
@@ -21,8 +22,6 @@ use Rattle.layout.specs.declared.Window.{Window}
 use Rattle.perm.specs.declared.Perm.TheVariants.{Ro, Rw, Rx}
 use Rattle.perm.specs.declared.Perm.{Perm}
 use Rattle.reach.specs.declared.Reach.{Reach}
-use Rattle.reach.specs.declared.Reached.{Reached}
-use Rattle.reach.specs.declared.Reached.TheVariants.{At, Nothing}
 use Rattle.refusal.proofs.All.{all_map, all_both}
 use Rattle.refusal.specs.All.{All}
 use Rattle.refusal.specs.Table.{first, each_from, pairs}
@@ -33,22 +32,22 @@ use Rattle.window_reach.specs.Granted.{Region, regions_of, contains, reach_at, b
 use Rattle.demand_2.specs.OutOfReach.{ByteOf, OutOfReach, TableHandedOut}
 use Rattle.demand_2.proofs.Demand2.{image_itself, demand_2_whole}
 
-abbrev output_at : Reached → ℕ
-output_at (At r) = r.pa
-output_at Nothing = 0
+abbrev output_at : Option Reach → ℕ
+output_at (Some r) = r.pa
+output_at None = 0
 
 -- an entry's answer is at its output address
-at_output : (pa : ℕ) (exempt : Bool) (e : ℕ) (r : Reach) → by_entry pa exempt e ≡ At r → r.pa ≡ pa
+at_output : (pa : ℕ) (exempt : Bool) (e : ℕ) (r : Reach) → by_entry pa exempt e ≡ Some r → r.pa ≡ pa
 at_output pa exempt e r q = go (eqb e 1) (eqb e 2) (eqb e 3) q
   where
-    reached : (p : Perm) → reach_at pa (leaf_access_xn p exempt) ≡ At r → r.pa ≡ pa
+    reached : (p : Perm) → reach_at pa (leaf_access_xn p exempt) ≡ Some r → r.pa ≡ pa
     reached p f = sym (ap output_at f)
 
     go :
         (a b c : Bool) →
         pick a (reach_at pa (leaf_access_xn Ro exempt))
-        (pick b (reach_at pa (leaf_access_xn Rw exempt)) (pick c (reach_at pa (leaf_access_xn Rx exempt)) Nothing))
-        ≡ At r →
+        (pick b (reach_at pa (leaf_access_xn Rw exempt)) (pick c (reach_at pa (leaf_access_xn Rx exempt)) None))
+        ≡ Some r →
         r.pa ≡ pa
     go true b c f = reached Ro f
     go false true c f = reached Rw f
@@ -60,30 +59,30 @@ module _ (x : ℕ) (r : Reach) where
   abbrev Not-from : Region → Type 0
   Not-from g = Inside g.window x → r.pa ≡ g.window.pa + (x - g.window.ipa) → ⊥
 
-  nowhere : (gs : List Region) → granted_by gs x ≡ At r → All Not-from gs → ⊥
+  nowhere : (gs : List Region) → granted_by gs x ≡ Some r → All Not-from gs → ⊥
   unfolding granted_by
   nowhere [] e a = absurd (let z : ◌≡◌ {A = ℕ} 0 1 = cc in omega arith)
   nowhere (g ∷ gs) e a = go (contains g.window x) refl e (λ f. nowhere gs f a.1)
     where
       go :
-          (b : Bool) → contains g.window x ≡ b → pick b (granted_in g x) (granted_by gs x) ≡ At r →
-          (granted_by gs x ≡ At r → ⊥) → ⊥
+          (b : Bool) → contains g.window x ≡ b → pick b (granted_in g x) (granted_by gs x) ≡ Some r →
+          (granted_by gs x ≡ Some r → ⊥) → ⊥
       go true c f later = a.0 (inside g.window x c) (at_output _ g.exempt (g.entry ((x - g.window.ipa) / g.piece)) r f)
       go false c f later = later f
 
-  module _ (t : Table) (there : t.present ≡ true) (whole : t.pa % page ≡ 0) (byte : ByteOf t r.pa) where
+  module _ (t : Table) (whole : t.pa % page ≡ 0) (byte : ByteOf t r.pa) where
     begins : (pa span away : ℕ) → pa % page ≡ 0 → away < span → r.pa ≡ pa + away → (pa ≤ t.pa) × (t.pa < pa + span)
     begins pa span away a b e = (omega (arith, a, whole, byte.1, e), omega (arith, b, byte.0, e))
 
     off : (w : Window) → (w.present ≡ true → w.pa % page ≡ 0) → lies_in t w ≡ false → Inside w x → r.pa ≡ w.pa + (x - w.ipa) → ⊥
     off w aligned f i e =
         let b = begins w.pa w.span (x - w.ipa) (aligned i.there) i.before e in
-        let l : lies_in t w ≡ true = rw (there, i.there, le-leb _ _ b.0, lt-ltb _ _ b.1) in false≢true (sym f ∙ l)
+        let l : lies_in t w ≡ true = rw (i.there, le-leb _ _ b.0, lt-ltb _ _ b.1) in false≢true (sym f ∙ l)
 
 by_blocks : (n : ℕ) → n % block ≡ 0 → n % page ≡ 0
 by_blocks n h = omega (arith, h)
 
-module _ (l : Layout) (base sup : List ℕ) (g : Guarded board_limit base sup l) (x : ℕ) (r : Reach) (e : granted l base sup x ≡ At r) where
+module _ (l : Layout) (base sup : List ℕ) (g : Guarded board_limit base sup l) (x : ℕ) (r : Reach) (e : granted l base sup x ≡ Some r) where
   abbrev image : Window
   image = image_window l.guest_image_pa
 
@@ -101,11 +100,11 @@ module _ (l : Layout) (base sup : List ℕ) (g : Guarded board_limit base sup l)
   abbrev Clear : Table → Type 0
   Clear t = All (λ w. lies_in t w ≡ false) (windows_of l)
 
-  no_byte : (t : Table) → (t.present ≡ true → Nameable board_limit t) → Clear t → t.present ≡ true → ByteOf t r.pa → ⊥
-  no_byte t n a there byte =
+  no_byte : (t : Table) → Nameable board_limit t → Clear t → ByteOf t r.pa → ⊥
+  no_byte t n a byte =
       nowhere x r (regions_of l base sup) e
       (all_map (λ g. (g.window.present ≡ true → g.window.pa % page ≡ 0) × (lies_in t g.window ≡ false)) (Not-from x r)
-      (λ g b. off x r t there (n there).aligned byte g.window b.0 b.1) (regions_of l base sup)
+      (λ g b. off x r t n.aligned byte g.window b.0 b.1) (regions_of l base sup)
       (all_both (λ (g : Region). g.window.present ≡ true → g.window.pa % page ≡ 0) (λ (g : Region). lies_in t g.window ≡ false)
       (regions_of l base sup) pages a))
 
@@ -113,9 +112,9 @@ pub out_of_reach : OutOfReach
 out_of_reach l base sup words e all apart x r walked =
     let g = guarded_facts board_limit base sup l e in
     let granted_at = sym (demand_2_whole l base sup words e all x).walks ∙ walked in
-    all_map (λ t. (t.present ≡ true → Nameable board_limit t) × Clear l base sup g x r granted_at t) _
+    all_map (λ t. Nameable board_limit t × Clear l base sup g x r granted_at t) _
     (λ t b. no_byte l base sup g x r granted_at t b.0 b.1) (tables_of l)
-    (all_both (λ (t : Table). t.present ≡ true → Nameable board_limit t) (Clear l base sup g x r granted_at) (tables_of l)
+    (all_both (Nameable board_limit) (Clear l base sup g x r granted_at) (tables_of l)
     g.layout.tables apart)
 
 pub table_handed_out : TableHandedOut

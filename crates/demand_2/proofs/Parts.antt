@@ -1,4 +1,6 @@
 -- Regions whose windows are apart: the address's slot of table 1 has one area's word and its region's grant, or no word and nothing.
+use Rattle.std.specs.Prelude.{Option, None}
+use Rattle.reach.specs.declared.Reach.{Reach}
 use Prim.Native.Nat.{ℕ}
 use mathlib.Core.Bool.{Bool, true, false}
 use mathlib.Core.List.{List, [], ◌∷◌, map}
@@ -8,8 +10,6 @@ use Rattle.areas.specs.declared.Area.{Area}
 use Rattle.arena.proofs.At.{last_at}
 use Rattle.arena.specs.Word.{table_to}
 use Rattle.fields.specs.Named.{pick}
-use Rattle.reach.specs.declared.Reached.{Reached}
-use Rattle.reach.specs.declared.Reached.TheVariants.{Nothing}
 use Rattle.refusal.proofs.All.{all_map}
 use Rattle.refusal.specs.All.{All, AllPairs}
 use Rattle.window_reach.proofs.Grants.{granted_none}
@@ -33,10 +33,10 @@ abbrev pub areas_in : List Part → List Area
 areas_in ps = map area_in ps
 
 -- in this window, or nothing
-abbrev pub In : ℕ → Region → Reached
-In x r = pick (contains r.window x) (granted_in r x) Nothing
+abbrev pub In : ℕ → Region → Option Reach
+In x r = pick (contains r.window x) (granted_in r x) None
 
-module _ (x j : ℕ) (C : Reached → ℕ → Type 0) where
+module _ (x j : ℕ) (C : Option Reach → ℕ → Type 0) where
   abbrev has : Part → Bool
   has p = area_has (area_in p) j
 
@@ -52,7 +52,7 @@ module _ (x j : ℕ) (C : Reached → ℕ → Type 0) where
   others_last (p ∷ ps) old none =
       ap (λ b. last_at (areas_in ps) j (pick b (table_to p.table) old)) none.0 ∙ others_last ps old none.1
 
-  along : {a b : Reached} {m n : ℕ} → a ≡ b → m ≡ n → C b n → C a m
+  along : {a b : Option Reach} {m n : ℕ} → a ≡ b → m ≡ n → C b n → C a m
   along {b = b} {m = m} e f c = subst (λ r. C r m) (sym e) (subst (C b) (sym f) c)
 
   pub seen_in :
@@ -60,7 +60,7 @@ module _ (x j : ℕ) (C : Reached → ℕ → Type 0) where
       AllPairs (λ p q. has p ≡ true → has q ≡ false) ps →
       All Beside ps →
       All (λ p. has p ≡ true → C (In x p.region) (table_to p.table)) ps →
-      C Nothing old →
+      C None old →
       C (granted_by (regions_in ps) x) (last_at (areas_in ps) j old)
   unfolding granted_by
   seen_in [] old alone beside sees none = none

@@ -1,4 +1,6 @@
 -- What is seen along a path is seen over any words that agree along it.
+use Rattle.std.specs.Prelude.{Option}
+use Rattle.reach.specs.declared.Reach.{Reach}
 use Prim.Native.Nat.{ℕ, suc, ◌+◌, ◌*◌, ◌<◌}
 use mathlib.Core.Bool.{Bool, true, false}
 use mathlib.Core.List.{List, [], ◌∷◌}
@@ -11,7 +13,6 @@ use Rattle.descent.specs.Descent.{Words, index, fetch_from, next_table}
 use Rattle.descent.specs.Path.{word_read, AgreesFrom}
 use Rattle.fields.specs.Named.{pick}
 use Rattle.layout.specs.Size.{entries}
-use Rattle.reach.specs.declared.Reached.{Reached}
 
 module _ (words others : Words) (named j : ℕ) where
   -- words that are read alike are so whatever stands outside
@@ -53,7 +54,7 @@ module _ (tables : List ℕ) (words others : Words) (x : ℕ) where
     on : AgreesFrom tables words others x left t
     on = p.1 t (ap next_table (p.0 ∙ f 0) ∙ n.decodes)
 
-  pub seen_along : (r : Reached) → AgreesFrom tables words others x 2 (get_or tables 0 0) → Seen tables others x r → Seen tables words x r
+  pub seen_along : (r : Option Reach) → AgreesFrom tables words others x 2 (get_or tables 0 0) → Seen tables others x r → Seen tables words x r
   seen_along r p (blank1 f) = blank1 (found 2 _ 0 p.0 f)
   seen_along r p (blank2 d t f n g) = let q = on 1 _ d t p f n in blank2 d t (found 2 _ d p.0 f) n (found 1 t 0 q.0 g)
   seen_along r p (blank3 d t e u f n g o h) =

@@ -1,4 +1,6 @@
 -- What a descent through emitted words sees, and that walk and manual read it alike.
+use Rattle.std.specs.Prelude.{Some, Option, None}
+use Rattle.reach.specs.declared.Reach.{Reach}
 use Prim.Native.Nat.{ℕ, ◌+◌, ◌%◌, ◌<◌}
 use mathlib.Core.List.{List}
 use mathlib.Core.Path.{◌≡◌, ap, ◌∙◌}
@@ -9,7 +11,6 @@ use Rattle.arena.specs.Word.{table_to}
 use Rattle.decode.proofs.Emitted.{emitted_decodes}
 use Rattle.decode.specs.Decoded.{decoded_table}
 use Rattle.decode.specs.Emitted.{Output}
-use Rattle.decode.specs.declared.DecodedTable.TheVariants.{At as Names}
 use Rattle.demand_2.proofs.Leaves.{PageLeaf, BlockLeaf}
 use Rattle.desc.specs.Descriptor.{descriptor_type, block_type, table_type, page_type, page_address}
 use Rattle.desc.specs.Words.{table_word}
@@ -20,8 +21,6 @@ use Rattle.descent.specs.declared.Stop.{Stop}
 use Rattle.fields.specs.Bits.{bits}
 use Rattle.layout.specs.Size.{page, block, input_limit}
 use Rattle.manual.specs.Translation.{Machine, Access, level1, level2, level3, translation, allowed}
-use Rattle.reach.specs.declared.Reached.{Reached}
-use Rattle.reach.specs.declared.Reached.TheVariants.{Nothing}
 use Rattle.walk.specs.Walk.{leaf_reach, reading, walk_of}
 use Rattle.window_reach.specs.Granted.{reach_at}
 
@@ -29,7 +28,7 @@ use Rattle.window_reach.specs.Granted.{reach_at}
 pub record Names-table (d t : ℕ) : Type 0 where
   pub type : descriptor_type d ≡ table_type
   pub address : page_address d ≡ t
-  pub decodes : decoded_table d ≡ Names t
+  pub decodes : decoded_table d ≡ Some t
 
 pub table_names : (t : ℕ) → Output 12 t → Names-table (table_to t) t
 table_names t o =
@@ -61,11 +60,11 @@ module _ (tables : List ℕ) (words : Words) (x : ℕ) where
   abbrev root : ℕ
   root = get_or tables 0 0
 
-  pub data Seen : Reached → Type 0 where
-    blank1 : Finds 2 root 0 → Seen Nothing
-    blank2 : (d t : ℕ) → Finds 2 root d → Names-table d t → Finds 1 t 0 → Seen Nothing
+  pub data Seen : Option Reach → Type 0 where
+    blank1 : Finds 2 root 0 → Seen None
+    blank2 : (d t : ℕ) → Finds 2 root d → Names-table d t → Finds 1 t 0 → Seen None
     blank3 :
-        (d t e u : ℕ) → Finds 2 root d → Names-table d t → Finds 1 t e → Names-table e u → Finds 0 u 0 → Seen Nothing
+        (d t e u : ℕ) → Finds 2 root d → Names-table d t → Finds 1 t e → Names-table e u → Finds 0 u 0 → Seen None
     block2 :
         (d t e pa : ℕ) (a : AccessXn) →
         Finds 2 root d → Names-table d t → Finds 1 t e → BlockLeaf e pa a → Seen (reach_at (pa + x % block) a)
@@ -75,7 +74,7 @@ module _ (tables : List ℕ) (words : Words) (x : ℕ) where
         Names-table d t → Finds 1 t e → Names-table e u → Finds 0 u f → PageLeaf f pa a → Seen (reach_at (pa + x % page) a)
 
   module _ (low : x < input_limit) where
-    pub walk_seen : (r : Reached) → Seen r → walk_of tables (λ left. words) x ≡ r
+    pub walk_seen : (r : Option Reach) → Seen r → walk_of tables (λ left. words) x ≡ r
     unfolding walk_of descend
     walk_seen r (blank1 f) = rw (lt-ltb _ _ low, f 0)
     walk_seen r (blank2 d t f n g) = rw (lt-ltb _ _ low, f 0, n.decodes, g 0)
@@ -92,7 +91,7 @@ module _ (tables : List ℕ) (words : Words) (x : ℕ) where
     out : ℕ → ℕ → ℕ
     out left named = m.elsewhere named (index left x)
 
-    pub manual_seen : (r : Reached) → Seen r → translation m tables (λ left. words) c x ≡ allowed c r
+    pub manual_seen : (r : Option Reach) → Seen r → translation m tables (λ left. words) c x ≡ allowed c r
     unfolding translation level1 level2 level3 out
     manual_seen r (blank1 f) = rw (lt-ltb _ _ low, f (out 2 root))
     manual_seen r (blank2 d t f n g) = rw (lt-ltb _ _ low, f (out 2 root), n.type, n.address, g (out 1 t))

@@ -1,4 +1,5 @@
 -- What is seen of an address in a window's own slot: one lemma for windows of blocks, one for pages.
+use Rattle.std.specs.Prelude.{None}
 use Prim.Native.Nat.{ℕ, ◌+◌, ◌-◌, ◌*◌, ◌/◌, ◌%◌, ◌≤◌, ◌<◌}
 use mathlib.Core.Bool.{Bool, true, false, false≢true}
 use mathlib.Core.List.{List}
@@ -19,7 +20,6 @@ use Rattle.descent.specs.Descent.{Words, index}
 use Rattle.fields.specs.Named.{pick}
 use Rattle.layout.specs.Size.{entries, page, block, input_limit}
 use Rattle.layout.specs.Window.{l1_slot, l2_slot, slot}
-use Rattle.reach.specs.declared.Reached.TheVariants.{Nothing}
 use Rattle.window_reach.proofs.Contains.{Inside, inside, contained}
 use Rattle.window_reach.specs.Granted.{Region, contains, reach_at, by_entry, granted_in}
 
@@ -79,7 +79,7 @@ module _ (tables : List ℕ) (words : Words) (x : ℕ) where
           ∙ run_inside (l2_slot x) (omega arith) k u table (omega (arith, a, starts)) (omega (arith, b, starts, counts))
           ∙ ap (λ (n : ℕ). word (l2_slot x - n)) starts
 
-      nothing : Finds tables words x 1 t 0 → Seen tables words x Nothing
+      nothing : Finds tables words x 1 t 0 → Seen tables words x None
       nothing f = blank2 d t at1 names f
 
       -- the address is in the window: the word is its piece's
@@ -107,10 +107,10 @@ module _ (tables : List ℕ) (words : Words) (x : ℕ) where
               subst (Seen tables words x) (ap (λ (n : ℕ). reach_at n a) sum ∙ sym (by_piece ∙ says (r.window.pa + away)))
               (block2 d t (word (away / block)) (r.window.pa + away / block * block) a at1 names f leaf)
 
-      outside : contains r.window x ≡ false → Seen tables words x Nothing
+      outside : contains r.window x ≡ false → Seen tables words x None
       outside e = go (leb from (l2_slot x)) (ltb (l2_slot x) (from + r.window.span / block)) refl refl
         where
-          go : (b c : Bool) → leb from (l2_slot x) ≡ b → ltb (l2_slot x) (from + r.window.span / block) ≡ c → Seen tables words x Nothing
+          go : (b c : Bool) → leb from (l2_slot x) ≡ b → ltb (l2_slot x) (from + r.window.span / block) ≡ c → Seen tables words x None
           go false c p q = nothing (before (leb-false _ _ p))
           go true false p q = nothing (past (ltb-false _ _ q))
           go true true p q =
@@ -121,7 +121,7 @@ module _ (tables : List ℕ) (words : Words) (x : ℕ) where
       pub block_window : Seen tables words x (In x r)
       block_window = go (contains r.window x) refl
         where
-          go : (b : Bool) → contains r.window x ≡ b → Seen tables words x (pick b (granted_in r x) Nothing)
+          go : (b : Bool) → contains r.window x ≡ b → Seen tables words x (pick b (granted_in r x) None)
           go true e = granted (inside r.window x e)
           go false e = outside e
 
@@ -173,7 +173,7 @@ module _ (tables : List ℕ) (words : Words) (x : ℕ) where
               ∙ sym (by_piece ∙ says (r.window.pa + (x - first))))
               (page3 d t e u (word (index 0 x)) (r.window.pa + index 0 x * page) a at1 names (at2 there) names2 at3 leaf)
 
-      off_page : contains r.window x ≡ false → Seen tables words x Nothing
+      off_page : contains r.window x ≡ false → Seen tables words x None
       off_page f = blank2 d t at1 names (other elsewhere)
         where
           elsewhere : l2_slot first ≡ l2_slot x → ⊥
@@ -185,6 +185,6 @@ module _ (tables : List ℕ) (words : Words) (x : ℕ) where
       pub page_window : Seen tables words x (In x r)
       page_window = go (contains r.window x) refl
         where
-          go : (b : Bool) → contains r.window x ≡ b → Seen tables words x (pick b (granted_in r x) Nothing)
+          go : (b : Bool) → contains r.window x ≡ b → Seen tables words x (pick b (granted_in r x) None)
           go true q = in_page (inside r.window x q)
           go false q = off_page q

@@ -1,4 +1,5 @@
 -- S's maps are filled by computing; the rest are cases of the theorems.
+use Rattle.std.specs.Prelude.{None}
 use Prim.Native.Nat.{ℕ}
 use mathlib.Core.Bool.{true}
 use mathlib.Core.List.{List, [], ◌∷◌, flat_map}
@@ -20,7 +21,6 @@ use Rattle.filling.specs.Filling.{filling, put_in, placed, onward, placed_all, c
 use Rattle.layout.specs.Layout.{layout_of}
 use Rattle.layout.specs.Size.{board_limit, arena_length}
 use Rattle.perm.specs.declared.Perm.TheVariants.{Rw}
-use Rattle.reach.specs.declared.Reached.TheVariants.{Nothing}
 use Rattle.refusal.specs.Table.{accepted, first, each_from, pairs}
 use Rattle.rows.proofs.Examples as Rows
 use Rattle.rows.specs.Examples.{base_s, sup_s}
@@ -61,7 +61,7 @@ module _ (words : List ℕ) (long : length words ≡ arena_length) where
   completes : Completes (addresses_of S) words [] source_s base_s sup_s
   completes = updates_complete (addresses_of S) words [] long tt source_s base_s sup_s accepted_s
 
-  half_way : walk_after words halfway 0x8000_1234 ≡ Nothing
+  half_way : walk_after words halfway 0x8000_1234 ≡ None
   half_way =
       (demand_3.walk (addresses_of S) words (full_update source_s base_s sup_s) completes.premises words source_s (λ r. halfway) (λ r. halfway)
       (λ r b. completes.cuts halfway (omega arith)) 0x8000_1234).at_half_way (λ r b. refl)

@@ -1,10 +1,11 @@
 -- What grants: a source, the maps that are filled from it, and its granted answer, by document 01 ("Update").
+use Rattle.std.specs.Prelude.{Option}
+use Rattle.reach.specs.declared.Reach.{Reach}
 use Rattle.std.specs.Prelude.{ℕ, List, ◌≡◌}
 use Rattle.edge.specs.declared.Edge.{Edge}
 use Rattle.filling.specs.Filling.{Filling, filling, filled_into, filled}
 use Rattle.layout.specs.Size.{entries}
 use Rattle.layout.specs.declared.Layout.{Layout}
-use Rattle.reach.specs.declared.Reached.{Reached}
 use Rattle.refusal.specs.Table.{accepted}
 use Rattle.window_reach.specs.Granted.{granted}
 
@@ -19,7 +20,7 @@ pub record Source : Type 0 where
 abbrev pub maps_of : Source → Filling
 maps_of s = filled_into s.frames s.domain s.edges entries entries
 
-abbrev pub granted_from : Source → ℕ → Reached
+abbrev pub granted_from : Source → ℕ → Option Reach
 granted_from s x = granted s.layout (maps_of s).base (maps_of s).sup x
 
 -- maps that are filled from the source, accepted, whatever was lent to the filling

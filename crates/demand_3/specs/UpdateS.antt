@@ -1,4 +1,6 @@
 -- Scene S, with edges that fill its maps: a list of steps that demand 3 speaks of, and an address that is reached.
+use Rattle.std.specs.Prelude.{Option, None}
+use Rattle.reach.specs.declared.Reach.{Reach}
 use Rattle.std.specs.Prelude.{ℕ, ◌-◌, true, List, [], ◌∷◌, ◌≡◌, length, replicate}
 use Rattle.demand_2.specs.Demand2.{addresses_of}
 use Rattle.demand_2.specs.Tabled.{S, reach}
@@ -11,8 +13,6 @@ use Rattle.filling.specs.Filling.{filling, filled}
 use Rattle.layout.specs.Size.{arena_length}
 use Rattle.leafmap_theorems.specs.Examples.{edge}
 use Rattle.perm.specs.declared.Perm.TheVariants.{Rw}
-use Rattle.reach.specs.declared.Reached.{Reached}
-use Rattle.reach.specs.declared.Reached.TheVariants.{Nothing}
 use Rattle.refusal.specs.Table.{row, Outcome, accepted, refused, first}
 use Rattle.rows.specs.Examples.{base_s, sup_s}
 use Rattle.update.specs.Step.{halfway, step_count, step_rows}
@@ -29,7 +29,7 @@ source_s =
     }
 
 -- what an address reaches after n steps of the update to S
-abbrev pub walk_after : List ℕ → ℕ → ℕ → Reached
+abbrev pub walk_after : List ℕ → ℕ → ℕ → Option Reach
 walk_after words n x =
     walk_of (addresses_of S) (λ r. words_of (cut_after words (full_update source_s base_s sup_s) n).words) x
 
@@ -50,6 +50,6 @@ pub record UpdateS : Type 0 where
   -- from any 3,072 words
   pub completes :
       (words : List ℕ) → length words ≡ arena_length → Completes (addresses_of S) words [] source_s base_s sup_s
-  pub half_way : (words : List ℕ) → length words ≡ arena_length → walk_after words halfway 0x8000_1234 ≡ Nothing
+  pub half_way : (words : List ℕ) → length words ≡ arena_length → walk_after words halfway 0x8000_1234 ≡ None
   pub last :
       (words : List ℕ) → length words ≡ arena_length → walk_after words step_count 0x8000_1234 ≡ reach 0x5000_1234 Rw true

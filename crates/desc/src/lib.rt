@@ -7,7 +7,7 @@ ghost use Rattle.desc.specs.Words.{table_word, page_word, block_word, image_word
 use perm::Perm;
 
 // The access of a leaf, Ro or Rw, and whether it is execute never.
-#[derive(Clone, Copy)]
+#[derive(Clone, Copy, PartialEq, Eq)]
 pub struct AccessXn {
     pub access: Perm,
     pub xn: bool,
@@ -93,7 +93,8 @@ pub fn block_leaf_attrs(perm: Perm, wx_exempt: bool) -> u64
     ensures { result ≡ block_word perm wx_exempt }
 {
     match perm {
-        Perm::Rw => { if wx_exempt { BLOCK_RW_X } else { BLOCK_RW } }
+        Perm::Rw if wx_exempt => BLOCK_RW_X,
+        Perm::Rw => BLOCK_RW,
         Perm::Ro => BLOCK_RO,
         Perm::Rx => BLOCK_RX,
     }

@@ -1,12 +1,11 @@
 -- A stop comes back from its number.
+use Rattle.std.specs.Prelude.{Option, Some, None}
 use Prim.Native.Nat.{ℕ, zero, suc}
 use mathlib.Core.Bool.{Bool, true, false}
 use mathlib.Core.List.{List}
 use mathlib.Core.Path.{◌≡◌, refl}
 use lib.Dec.{eqb}
 use borrow.Author.Tests.{eqb-true}
-use Rattle.decode.specs.declared.DecodedTable.{DecodedTable}
-use Rattle.decode.specs.declared.DecodedTable.TheVariants.{At, Nothing}
 use Rattle.desc.specs.Descriptor.{descriptor_type, block_type, page_type}
 use Rattle.descent.specs.Descent.{Words, index, fetch, ends_at, next_table, leads, through}
 use Rattle.descent.specs.Packed.{packed, unpacked}
@@ -32,9 +31,9 @@ end_back (suc (suc left)) d = refl
 
 by_table :
     (left d : ℕ) (down : ℕ → Stop) → ((next : ℕ) → Back (down next)) →
-    (t : DecodedTable) → Back (leads t down (ends_at (suc left) d))
-by_table left d down below (At next) = below next
-by_table left d down below Nothing = end_back (suc left) d
+    (t : Option ℕ) → Back (leads t down (ends_at (suc left) d))
+by_table left d down below (Some next) = below next
+by_table left d down below None = end_back (suc left) d
 
 pub back : (tables : List ℕ) (ws : ℕ → Words) (left d x : ℕ) → Back (through tables ws left d x)
 back tables ws zero d x = end_back 0 d

@@ -1,8 +1,7 @@
 -- The descent through the tables, by document 01 ("Arena"): from level 1 through level 2 to level 3, with remaining levels falling.
+use Rattle.std.specs.Prelude.{Option, Some, None}
 use Rattle.std.specs.Prelude.{ℕ, zero, suc, ◌+◌, ◌*◌, ◌/◌, ◌%◌, List, [], ◌∷◌, eqb, ltb, get_or}
 use Rattle.decode.specs.Decoded.{decoded_table}
-use Rattle.decode.specs.declared.DecodedTable.{DecodedTable}
-use Rattle.decode.specs.declared.DecodedTable.TheVariants.{At, Nothing}
 use Rattle.desc.specs.Descriptor.{descriptor_type, block_type, page_type}
 use Rattle.descent.specs.declared.Stop.{Stop}
 use Rattle.descent.specs.declared.Stop.TheVariants.{Leaf, Stopped}
@@ -42,13 +41,13 @@ ends_at (suc zero) d = pick (eqb (descriptor_type d) block_type) (Leaf 2 d) (Sto
 ends_at (suc (suc left)) d = Stopped 1
 
 -- the table that an entry's word leads to
-abbrev pub next_table : ℕ → DecodedTable
+abbrev pub next_table : ℕ → Option ℕ
 next_table d = decoded_table d
 
 -- on from the table that a word leads to; where there is none, the descent ends here
-abbrev pub leads : {A : Type 0} → DecodedTable → (ℕ → A) → A → A
-leads (At named) down here = down named
-leads Nothing down here = here
+abbrev pub leads : {A : Type 0} → Option ℕ → (ℕ → A) → A → A
+leads (Some named) down here = down named
+leads None down here = here
 
 -- from an entry's word, with so many levels left below it: each read sees words of its own, and outside the arena zero
 abbrev pub through : List ℕ → (ℕ → Words) → ℕ → ℕ → ℕ → Stop

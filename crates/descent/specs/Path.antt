@@ -1,6 +1,6 @@
 -- The words that a walk reads on its way to an address.
+use Rattle.std.specs.Prelude.{Some}
 use Rattle.std.specs.Prelude.{ℕ, zero, suc, ◌<◌, List, ◌≡◌, get_or}
-use Rattle.decode.specs.declared.DecodedTable.TheVariants.{At}
 use Rattle.descent.specs.Descent.{Words, index, fetch, next_table}
 use Rattle.layout.specs.Size.{input_limit}
 
@@ -14,7 +14,7 @@ module _ (tables : List ℕ) (words others : Words) (x : ℕ) where
   AgreesFrom zero named = word_read words 0 named ≡ word_read others 0 named
   AgreesFrom (suc left) named =
       (word_read words (suc left) named ≡ word_read others (suc left) named)
-      × ((next : ℕ) → next_table (word_read words (suc left) named) ≡ At next → AgreesFrom left next)
+      × ((next : ℕ) → next_table (word_read words (suc left) named) ≡ Some next → AgreesFrom left next)
 
   -- an address of 2^39 or more has none
   abbrev pub PathAgrees : Type 0

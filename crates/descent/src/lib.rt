@@ -6,7 +6,6 @@ ghost use Rattle.descent.specs.Descent.{index, words_of, fetch, ends_at, next_ta
 ghost use Rattle.descent.specs.Packed.{packed, unpacked};
 ghost use Rattle.layout.specs.Size.{entries};
 
-use decode::DecodedTable;
 use layout::Layout;
 
 // Where a descent ends: at a leaf word, or at a level where no word leads on.
@@ -28,7 +27,7 @@ pub fn descend(arena: &[u64], tables: &[u64; Layout::TABLES], ipa: u64) -> Stop
 }
 
 // The table that an entry's word leads to.
-pub fn next_table(word: u64) -> DecodedTable
+pub fn next_table(word: u64) -> Option<u64>
     ensures { result ≡ next_table word }
 {
     decode::decode_table(word)
@@ -43,7 +42,7 @@ fn through(arena: &&[u64], tables: &[u64; Layout::TABLES], left: u32, word: u64,
     if left == 0 {
         return end_at(left, word);
     }
-    let DecodedTable::At(next) = next_table(word) else {
+    let Some(next) = next_table(word) else {
         return end_at(left, word);
     };
     let below = left - 1;

@@ -1,10 +1,9 @@
 -- Edges, by document 01 ("Edge and frame records", "Leaf maps").
-use Rattle.std.specs.Prelude.{ℕ, Bool, false, ◌&&◌, List, map, eqb, get_or}
+use Rattle.std.specs.Prelude.{Option, Some, None}
+use Rattle.std.specs.Prelude.{ℕ, Bool, false, ◌&&◌, List, map, ◌≡◌, eqb, get_or}
 use Rattle.fields.specs.Named.{pick}
 use Rattle.fields.specs.Numbers.{nonzero}
 use Rattle.p2m.specs.Frame.{owner_of}
-use Rattle.p2m.specs.declared.Owner.{Owner}
-use Rattle.p2m.specs.declared.Owner.TheVariants.{Domain, Nobody}
 use Rattle.perm.specs.Perm.{perm_code}
 use Rattle.perm.specs.declared.Perm.{Perm}
 use Rattle.perm.specs.declared.Perm.TheVariants.{Ro, Rw, Rx}
@@ -26,6 +25,10 @@ edge_of x =
 abbrev pub edges_of : List (List ℕ) → List Edge
 edges_of rows = map edge_of rows
 
+-- what each element of another type converts to, by `Into`
+abbrev pub Reads : {E : Type 0} → (E → Edge → Type 0) → (E → Edge) → Type 0
+Reads converts read = (x : _) (e : Edge) → converts x e → e ≡ read x
+
 -- writable with execute gives Rw
 abbrev pub perm_of : Edge → Perm
 perm_of e = pick e.writable Rw (pick e.execute Rx Ro)
@@ -34,9 +37,9 @@ perm_of e = pick e.writable Rw (pick e.execute Rx Ro)
 abbrev pub entry_of : Edge → ℕ
 entry_of e = perm_code (perm_of e)
 
-abbrev pub owned_by : ℕ → Owner → Bool
-owned_by dom (Domain owner) = eqb owner dom
-owned_by dom Nobody = false
+abbrev pub owned_by : ℕ → Option ℕ → Bool
+owned_by dom (Some owner) = eqb owner dom
+owned_by dom None = false
 
 -- the domain owns the frame
 unfoldable pub owns : List (List ℕ) → ℕ → ℕ → Bool

@@ -18,21 +18,24 @@ pub struct Edge {
     pub execute: bool,
 }
 
-impl Edge {
-    // From a row of its six fields; of the flags zero is no and all else yes.
-    pub fn of(row: [u32; 6]) -> Edge
-        ensures { result ≡ edge_of row }
-    {
+// From a row of its six fields; of the flags zero is no and all else yes.
+impl From<[u32; 6]> for Edge {
+    ghost from_gives = { λ row e. e ≡ edge_of row };
+
+    fn from(row: [u32; 6]) -> Edge {
+        let [parent, slot, child, writable, leaf, execute] = row;
         Edge {
-            parent: row[0],
-            slot: row[1],
-            child: row[2],
-            writable: row[3] != 0,
-            leaf: row[4] != 0,
-            execute: row[5] != 0,
+            parent,
+            slot,
+            child,
+            writable: writable != 0,
+            leaf: leaf != 0,
+            execute: execute != 0,
         }
     }
+}
 
+impl Edge {
     // No leaf is writable and executable: writable wins.
     pub fn perm(self) -> Perm
         ensures { result ≡ perm_of self }
@@ -47,23 +50,18 @@ impl Edge {
     }
 
     // Only leaves map a frame, and only those of tables that the domain owns map it for the domain.
+    #[tactic(auto, unfolding(crate::specs::Edge::counts))]
     pub fn counts(self, frames: &[[u32; 2]], dom: u16) -> bool
         ensures { result ≡ counts frames.now dom self }
     {
-        if self.leaf {
-            return owns(frames, self.parent, dom);
-        }
-        false
+        self.leaf && owns(frames, self.parent, dom)
     }
 }
 
-// Whether the domain owns the frame. A domain's number is its owner number, and above those nobody's are.
+// Whether the domain owns the frame.
+#[tactic(auto, unfolding(crate::specs::Edge::owns))]
 pub fn owns(frames: &[[u32; 2]], mfn: u32, dom: u16) -> bool
     ensures { result ≡ owns frames.now dom mfn }
 {
-    let at = mfn as usize;
-    if frames.len() <= at {
-        return false;
-    }
-    frames[at][0] == dom as u32
+    p2m::owner_of(frames, mfn) == Some(dom)
 }

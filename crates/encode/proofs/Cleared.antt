@@ -1,55 +1,28 @@
--- Clearing tables 4 to 6 word by word.
-use Prim.Native.Nat.{ℕ, ◌+◌, ◌*◌, ◌≤◌, ◌<◌}
-use mathlib.Core.Bool.{Bool, true, false, ◌&&◌}
-use mathlib.Core.List.{List}
-use mathlib.Core.Path.{◌≡◌, refl, sym, ap, ◌∙◌}
-use native.Mathlib.Omega.{arith}
-use lib.Dec.{eqb, ltb}
-use lib.ListN.{length, get_or, set, length-set}
-use lib.Seq.{get_or-set_same, get_or-set_other}
-use borrow.Author.Tests.{eqb-true, eqb-false, ltb-true, ltb-false, lt-ltb, le-ltb}
-use Rattle.arena.proofs.Over.{over_as, over_same}
-use Rattle.arena.specs.Encoded.{table_of, cleared}
+-- Clearing tables 4 to 6: a write of zeros to the arena's end.
+use Rattle.std.proofs.Common.{ℕ, ◌+◌, ◌*◌, ◌≤◌, ◌<◌, ◌≡◌, List, length, get_or, replicate, arith, rules}
+use Rattle.std.proofs.lemmas.Bool.Decides.{nat_tests}
+use Rattle.std.proofs.lemmas.List.{places}
+use borrow.Rule.Slice.PartMut.{put_mid, mid_of}
+use Rattle.arena.specs.Encoded.{cleared}
 use Rattle.arena.specs.Over.{Over}
-use Rattle.fields.specs.Named.{pick}
 use Rattle.layout.specs.Size.{entries}
 
--- what is cleared of tables 4 to 6, up to word n
-abbrev pub cleared_to : ℕ → ℕ → ℕ → ℕ
-cleared_to n i old = pick (ltb i n && ltb 3 (table_of i)) 0 old
+module _ (at n : ℕ) (xs ys : List ℕ) (long : length xs ≡ at + n) (zeros : ys ≡ replicate (length (mid_of at n xs)) 0) where
+  filled : length ys ≡ n
+  filled = rw zeros (search (rules, places))
 
-pub none_cleared : (xs : List ℕ) → Over (cleared_to (3 * entries)) xs xs
-none_cleared xs = over_same (cleared_to (3 * entries)) xs (λ i old. go i old (ltb i (3 * entries)) refl)
-  where
-    go : (i old : ℕ) (b : Bool) → ltb i (3 * entries) ≡ b → cleared_to (3 * entries) i old ≡ old
-    go i old true e = let h = ltb-true i (3 * entries) e in rw (e, le-ltb 3 (table_of i) (omega (arith, h)))
-    go i old false e = rw e
+  same_length : length (put_mid at n xs ys) ≡ length xs
+  same_length = let m = filled in search (rules, places)
 
-module _ (n : ℕ) (xs ys : List ℕ) (from : 3 * entries ≤ n) (within : n < length xs) (so_far : Over (cleared_to n) xs ys) where
-  pub one_cleared : Over (cleared_to (n + 1)) xs (set ys n 0)
-  one_cleared = record { long = length-set ys n 0 ∙ so_far.long; word = λ i h. go i h (eqb i n) refl }
-    where
-      beside : (i old : ℕ) → (i ≡ n → ⊥) → (b : Bool) → ltb i n ≡ b → cleared_to n i old ≡ cleared_to (n + 1) i old
-      beside i old ne true e =
-          let h = ltb-true i n e in ap (λ b. pick (b && ltb 3 (table_of i)) 0 old) (e ∙ sym (lt-ltb i (n + 1) (omega (arith, h))))
-      beside i old ne false e =
-          let h = ltb-false i n e in
-          let past : n + 1 ≤ i = omega (arith, h, ne) in
-          ap (λ b. pick (b && ltb 3 (table_of i)) 0 old) (e ∙ sym (le-ltb i (n + 1) past))
+  below : (i : ℕ) → i < at → get_or (put_mid at n xs ys) i 0 ≡ get_or xs i 0
+  below i h = search (rules, places)
 
-      go : (i : ℕ) → i < length xs → (b : Bool) → eqb i n ≡ b → get_or (set ys n 0) i 0 ≡ cleared_to (n + 1) i (get_or xs i 0)
-      go i h true e =
-          let q = eqb-true i n e in
-          let here : i < n + 1 = omega (arith, q) in
-          let table : 3 < table_of i = omega (arith, q, from) in
-          ap (λ (k : ℕ). get_or (set ys n 0) k 0) q
-          ∙ get_or-set_same ys n 0 0 (omega (arith, within, so_far.long))
-          ∙ sym (rw (lt-ltb i (n + 1) here, lt-ltb 3 (table_of i) table))
-      go i h false e =
-          let q = eqb-false i n e in
-          get_or-set_other ys n i 0 0 q ∙ so_far.word i h ∙ beside i (get_or xs i 0) q (ltb i n) refl
+  above : (i : ℕ) → at ≤ i → get_or (put_mid at n xs ys) i 0 ≡ 0
+  above i h = let m = filled in search (rules, places)
 
-pub all_cleared :
-    (n : ℕ) (xs ys : List ℕ) → length xs ≤ n → Over (cleared_to n) xs ys → Over cleared xs ys
-all_cleared n xs ys past =
-    over_as (cleared_to n) cleared xs ys (λ i old h. ap (λ b. pick (b && ltb 3 (table_of i)) 0 old) (lt-ltb i n (omega (arith, h, past))))
+module _ (n : ℕ) (xs ys : List ℕ) (long : length xs ≡ 3 * entries + n) (zeros : ys ≡ replicate (length (mid_of (3 * entries) n xs)) 0) where
+  pub tables_cleared : Over cleared xs (put_mid (3 * entries) n xs ys)
+  tables_cleared =
+      let lo = below (3 * entries) n xs ys long zeros in
+      let hi = above (3 * entries) n xs ys long zeros in
+      record { long = same_length (3 * entries) n xs ys long zeros; word = λ i h. grind (arith, nat_tests, lo i, hi i) }

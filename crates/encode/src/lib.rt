@@ -1,43 +1,48 @@
 // The words that the machine walks (hv-s2's arm64.rs, `encode`).
 #![tactic(auto)]
 
-ghost use Rattle.std.specs.Prelude.{ℕ, ◌+◌, ◌*◌, ◌/◌, ◌≤◌, ◌<◌, [], ◌∷◌, map, ◌≡◌, length, get_or};
-ghost use Rattle.arena.specs.Encoded.{run, one, stored, page_at, super_at, super_run, device_run, image_run, area_run, upper_runs, leaf_runs};
+ghost use Rattle.std.specs.Prelude.{ℕ, ◌+◌, ◌*◌, ◌/◌, ◌≤◌, ◌<◌, [], ◌∷◌, map, ◌≡◌, length};
+ghost use Rattle.arena.specs.Encoded.{run, one, stored, page_run, super_run, device_run, image_run, area_run, upper_runs, leaf_runs};
 ghost use Rattle.arena.specs.Encoded.{cleared, encoded};
 ghost use Rattle.arena.specs.Over.{Over};
 ghost use Rattle.encode.specs.Encoding.{Encoding};
 ghost use Rattle.encode.specs.Fits.{SupersFit, DeviceFits};
-ghost use Rattle.layout.specs.Size.{entries, board_limit, table_count, arena_length};
+ghost use Rattle.layout.specs.Size.{entries, board_limit, table_count};
 ghost use Rattle.layout.specs.Window.{devices_of};
 ghost use Rattle.refusal.specs.All.{All};
 ghost use Rattle.refusal.specs.Outcome.{outcome_of};
 
 use areas::Area;
 use layout::{Layout, Window};
-use refusal::Verdict;
+use refusal::Refusal;
+
+// The words of the six tables.
+type Arena = [u64; Layout::ARENA_LEN];
 
 // Rows 1 to 14 come before the first store.
-pub fn encode(arena: &mut [u64], base: &[u8], sup: &[u8], l: Layout) -> Verdict
+pub fn encode(arena: &mut [u64], base: &[u8], sup: &[u8], l: Layout) -> Result<(), Refusal>
     ensures { Encoding board_limit l base.now sup.now arena.old (outcome_of result) arena.new }
 {
     encode_at(Layout::BOARD_LIMIT, arena, base, sup, l)
 }
 
 // The same where tables and outputs lie below a limit of the caller's.
-pub fn encode_at(limit: u64, arena: &mut [u64], base: &[u8], sup: &[u8], l: Layout) -> Verdict
+pub fn encode_at(
+    limit: u64,
+    arena: &mut [u64],
+    base: &[u8],
+    sup: &[u8],
+    l: Layout,
+) -> Result<(), Refusal>
     ensures { Encoding limit l base.now sup.now arena.old (outcome_of result) arena.new }
 {
-    let verdict = guard::guard_at(limit, arena, base, sup, l);
-    let Verdict::Accepted = verdict else {
-        return verdict;
-    };
-    encode_guarded(arena, base, sup, l);
-    Verdict::Accepted
+    guard::guard_at(limit, arena, base, sup, l)?;
+    encode_guarded(arena.as_mut_array().unwrap(), base, sup, l);
+    Ok(())
 }
 
 // What rows 1 to 14 have let by. Tables 1 to 3 are not cleared: an old word remains unless overwritten.
-fn encode_guarded(arena: &mut [u64], base: &[u8], sup: &[u8], l: Layout)
-    requires arena_len { length arena.old ≡ arena_length }
+fn encode_guarded(arena: &mut Arena, base: &[u8], sup: &[u8], l: Layout)
     requires base_len_bound { length base.now ≤ entries }
     requires supers_fit { SupersFit l sup.now }
     requires all { All DeviceFits (devices_of l) }
@@ -49,18 +54,14 @@ fn encode_guarded(arena: &mut [u64], base: &[u8], sup: &[u8], l: Layout)
 }
 
 // Table 4 and on whole, so that no leaf of another guest remains.
-fn clear(arena: &mut [u64])
-    requires { length arena.old ≡ arena_length }
+fn clear(arena: &mut Arena)
     ensures { Over cleared arena.old arena.new }
 {
-    for i in 3 * Layout::ENTRIES..Layout::ARENA_LEN {
-        arena[i] = 0;
-    }
+    arena[3 * Layout::ENTRIES..].fill(0);
 }
 
 // Tables 1 to 3.
-fn encode_upper(arena: &mut [u64], l: Layout)
-    requires { length arena.old ≡ arena_length }
+fn encode_upper(arena: &mut Arena, l: Layout)
     ensures { Over (stored (upper_runs l)) arena.old arena.new }
 {
     put_areas(arena, areas::areas(l));
@@ -70,30 +71,27 @@ fn encode_upper(arena: &mut [u64], l: Layout)
 }
 
 // Table 4 and on.
-fn encode_leaves(arena: &mut [u64], base: &[u8], sup: &[u8], l: Layout)
-    requires arena_len { length arena.old ≡ arena_length }
+fn encode_leaves(arena: &mut Arena, base: &[u8], sup: &[u8], l: Layout)
     requires base_len_bound { length base.now ≤ entries }
     requires supers_fit { SupersFit l sup.now }
     requires all { All DeviceFits (devices_of l) }
     ensures { Over (stored (leaf_runs l base.now sup.now)) arena.old arena.new }
 {
-    put_pages(arena, base, l.data_pa_base);
-    encode_super(arena, sup, l);
-    put_device(arena, 6, l.device_window());
+    put_pages(arena, base, l);
+    put_supers(arena, sup, l);
+    put_device(arena, l.device_window());
 }
 
 // Table 1.
-fn put_areas(arena: &mut [u64], areas: [Area; Layout::WINDOWS])
-    requires { length arena.old ≡ arena_length }
+fn put_areas(arena: &mut Arena, areas: [Area; Layout::WINDOWS])
     ensures { Over (stored (map area_run areas)) arena.old arena.new }
 {
-    for i in 0..Layout::WINDOWS {
-        put_area(arena, areas[i]);
+    for a in areas {
+        put_area(arena, a);
     }
 }
 
-fn put_area(arena: &mut [u64], a: Area)
-    requires { length arena.old ≡ arena_length }
+fn put_area(arena: &mut Arena, a: Area)
     ensures { Over (stored (area_run a ∷ [])) arena.old arena.new }
 {
     if a.present {
@@ -103,31 +101,74 @@ fn put_area(arena: &mut [u64], a: Area)
 }
 
 // Table 2.
-fn put_image(arena: &mut [u64], l: Layout)
-    requires { length arena.old ≡ arena_length }
+fn put_image(arena: &mut Arena, l: Layout)
     ensures { Over (stored (image_run l ∷ [])) arena.old arena.new }
 {
-    let image_pa = l.guest_image_pa;
-    let image = image_pa.window();
-    if image.present {
-        let index = Layout::l2_index(image.ipa) as usize;
-        put(arena, 2, index, arena::image_word(image.pa));
+    if let Some(pa) = l.guest_image_pa {
+        let index = Layout::l2_index(pa) as usize;
+        put(arena, 2, index, arena::image_word(pa));
     }
 }
 
-// Table 5: none is mapped at or past sup_frames.
-fn encode_super(arena: &mut [u64], sup: &[u8], l: Layout)
-    requires arena_len { length arena.old ≡ arena_length }
-    requires supers_fit { SupersFit l sup.now }
+// Table 4: a page for each entry of the base map.
+fn put_pages(arena: &mut Arena, base: &[u8], l: Layout)
+    requires { length base.now ≤ entries }
+    ensures { Over (stored (page_run l base.now ∷ [])) arena.old arena.new }
+{
+    put_run(
+        arena,
+        4,
+        0,
+        base.len(),
+        |m| arena::page_word(l.data_pa_base, m as u32, base[m]),
+    );
+}
+
+// Table 5: a block for each entry of the super map, from the window's own slot on. None is mapped at or past sup_frames.
+fn put_supers(arena: &mut Arena, sup: &[u8], l: Layout)
+    requires { SupersFit l sup.now }
     ensures { Over (stored (super_run l sup.now ∷ [])) arena.old arena.new }
 {
     let from = Layout::l2_index(l.sup_ipa_base) as usize;
-    put_supers(arena, sup, from, l.sup_pa_base, l.sup_wx_exempt);
+    put_run(arena, 5, from, sup.len(), |m| {
+        arena::block_word(l.sup_pa_base, m as u32, l.sup_wx_exempt, sup[m])
+    });
+}
+
+// Table 6: the blocks of the device window.
+fn put_device(arena: &mut Arena, w: Window)
+    requires { DeviceFits w }
+    ensures { Over (stored (device_run 6 w ∷ [])) arena.old arena.new }
+{
+    let from = Layout::l2_index(w.ipa) as usize;
+    let count = (w.span / Layout::BLOCK_SIZE) as usize;
+    put_run(
+        arena,
+        6,
+        from,
+        count,
+        |m| arena::device_word(w.ipa, m as u32),
+    );
+}
+
+// Words of one table from an index on, each at its place.
+fn put_run<F: Fn(usize) -> u64>(arena: &mut Arena, table: usize, from: usize, count: usize, word: F)
+    requires callable { (m : ℕ) → m < count → F.pre word m }
+    requires table_nonzero { 0 < table }
+    requires table_le_table_count { table ≤ table_count }
+    requires from_le_entries { from ≤ entries }
+    requires count_le_entries { count ≤ entries }
+    requires fits { (m w : ℕ) → m < count → F.post word m w → (w ≡ 0 → ⊥) → from + m < entries }
+    ensures { (f : ℕ → ℕ) → ((m w : ℕ) → F.post word m w → w ≡ f m)
+        → Over (stored (run table from count f ∷ [])) arena.old arena.new }
+{
+    for m in 0..count {
+        put(arena, table, from + m, word(m));
+    }
 }
 
 // A word at its place, unless it is none.
-fn put(arena: &mut [u64], table: usize, index: usize, word: u64)
-    requires arena_len { length arena.old ≡ arena_length }
+fn put(arena: &mut Arena, table: usize, index: usize, word: u64)
     requires table_nonzero { 0 < table }
     requires table_le_table_count { table ≤ table_count }
     requires index_lt_entries { (word ≡ 0 → ⊥) → index < entries }
@@ -135,50 +176,5 @@ fn put(arena: &mut [u64], table: usize, index: usize, word: u64)
 {
     if word != 0 {
         arena[(table - 1) * Layout::ENTRIES + index] = word;
-    }
-}
-
-// Table 4: a page for each entry of the base map.
-fn put_pages(arena: &mut [u64], base: &[u8], pa: u64)
-    requires arena_len { length arena.old ≡ arena_length }
-    requires base_len_bound { length base.now ≤ entries }
-    ensures { Over (stored (run 4 0 entries (page_at pa base.now) ∷ [])) arena.old arena.new }
-{
-    for m in 0..base.len() {
-        put(arena, 4, m, arena::page_word(pa, m as u32, base[m]));
-    }
-}
-
-// Table 5: a block for each entry of the super map, from the window's own slot on.
-fn put_supers(arena: &mut [u64], sup: &[u8], from: usize, pa: u64, exempt: bool)
-    requires arena_len { length arena.old ≡ arena_length }
-    requires sup_len_bound { length sup.now ≤ entries }
-    requires from_lt_entries { from < entries }
-    requires by_index { (p : ℕ) → p < length sup.now → (get_or sup.now p 0 ≡ 0 → ⊥) → from + p < entries }
-    ensures { Over (stored (run 5 from (length sup.now) (super_at pa exempt sup.now) ∷ [])) arena.old
-        arena.new }
-{
-    for m in 0..sup.len() {
-        put(
-            arena,
-            5,
-            from + m,
-            arena::block_word(pa, m as u32, exempt, sup[m]),
-        );
-    }
-}
-
-// The blocks of a device window, in its table.
-fn put_device(arena: &mut [u64], table: usize, w: Window)
-    requires arena_len { length arena.old ≡ arena_length }
-    requires table_nonzero { 0 < table }
-    requires table_le_table_count { table ≤ table_count }
-    requires device_fits { DeviceFits w }
-    ensures { Over (stored (device_run table w ∷ [])) arena.old arena.new }
-{
-    let from = Layout::l2_index(w.ipa) as usize;
-    let count = (w.span / Layout::BLOCK_SIZE) as usize;
-    for m in 0..count {
-        put(arena, table, from + m, arena::device_word(w.ipa, m as u32));
     }
 }

@@ -1,63 +1,59 @@
--- The entry of a frame after one edge, and after the edges from a position on.
-use Prim.Native.Nat.{ℕ, ◌+◌, ◌≤◌, ◌<◌}
-use mathlib.Core.Bool.{Bool, true, false, ◌&&◌}
+-- What is noted of the edges is, frame by frame, the last matching edge.
+use Prim.Native.Nat.{ℕ, ◌<◌}
+use mathlib.Core.Bool.{Bool, true, false}
 use mathlib.Core.List.{List}
-use mathlib.Core.Logic.{◌≢◌}
 use mathlib.Core.Path.{◌≡◌, refl, sym, ap, ◌∙◌}
-use native.Mathlib.Numerals.{add-one}
+use native.Mathlib.Omega.{arith}
 use lib.Dec.{eqb}
-use lib.ListN.{length, get_or, set, drop, drop_of_length-le}
-use lib.Seq.{drop-cons, get_or-set_same, get_or-set_other}
-use borrow.Author.Tests.{eqb-true, eqb-false, eq-eqb, ne_eqb}
+use lib.ListN.{length, get_or, set, replicate, get_or-replicate}
+use lib.Seq.{get_or-set_same, get_or-set_other}
+use borrow.Author.Tests.{eqb-true, eqb-false}
+use Rattle.std.proofs.lemmas.List.{length-set}
+use Rattle.std.proofs.lemmas.List.Folds.{fold_along}
+use Rattle.std.specs.List.{fold}
 use Rattle.edge.specs.Edge.{entry_of}
 use Rattle.edge.specs.declared.Edge.{Edge}
-use Rattle.expected.specs.Expected.{lands, after_edge, after_edges}
+use Rattle.expected.specs.Expected.{lands, noted, after_edge, after_edges, expected}
 use Rattle.fields.specs.Named.{pick}
+use Rattle.layout.specs.Size.{entries}
 use Rattle.p2m.specs.declared.Span.{Span}
 
-module _ (frames : List (List ℕ)) (dom : ℕ) (s : Span) (m : ℕ) where
-  module _ (e : Edge) (entry : ℕ) where
-    pub stays : lands frames dom s e ≡ false → entry ≡ after_edge frames dom s m entry e
-    unfolding after_edge
-    stays l = rw l
+-- frame m is inside, and has this entry
+abbrev Held : ℕ → List ℕ → ℕ → Type 0
+Held m xs entry = (m < length xs) × (get_or xs m 0 ≡ entry)
 
-    pub elsewhere : e.child ≢ m → entry ≡ after_edge frames dom s m entry e
-    unfolding after_edge
-    elsewhere other = go (lands frames dom s e)
-      where
-        go : (l : Bool) → entry ≡ pick (l && eqb e.child m) (entry_of e) entry
-        go true = rw (ne_eqb _ _ other)
-        go false = refl
-
-    pub decides : lands frames dom s e ≡ true → e.child ≡ m → entry_of e ≡ after_edge frames dom s m entry e
-    unfolding after_edge
-    decides l here = rw (l, eq-eqb _ _ here)
+module _ (frames : List (List ℕ)) (dom : ℕ) (s : Span) (m : ℕ) (e : Edge) where
+  pub stays : (entry : ℕ) → lands frames dom s e ≡ false → entry ≡ after_edge frames dom s m entry e
+  unfolding after_edge
+  stays entry l = rw l
 
   pub stored :
-      (e : Edge) (xs : List ℕ) → lands frames dom s e ≡ true → e.child < length xs →
+      (xs : List ℕ) → lands frames dom s e ≡ true → (e.child ≡ m → m < length xs) →
       get_or (set xs e.child (entry_of e)) m 0 ≡ after_edge frames dom s m (get_or xs m 0) e
-  stored e xs l inside = go (eqb e.child m) refl
+  unfolding after_edge
+  stored xs l inside = rw l (go (eqb e.child m) refl)
     where
-      go :
-          (b : Bool) →
-          eqb e.child m ≡ b → get_or (set xs e.child (entry_of e)) m 0 ≡ after_edge frames dom s m (get_or xs m 0) e
+      go : (b : Bool) → eqb e.child m ≡ b → get_or (set xs e.child (entry_of e)) m 0 ≡ pick b (entry_of e) (get_or xs m 0)
       go true t =
           let here = eqb-true e.child m t in
-          ap (λ k. get_or (set xs e.child (entry_of e)) k 0) (sym here)
-          ∙ get_or-set_same xs e.child (entry_of e) 0 inside
-          ∙ decides e (get_or xs m 0) l here
+          rw (sym here) (get_or-set_same xs e.child (entry_of e) 0 (omega (arith, here, inside here)))
       go false t =
-          let other = eqb-false e.child m t in
-          get_or-set_other xs e.child m (entry_of e) 0 (λ q. other (sym q)) ∙ elsewhere e (get_or xs m 0) other
+          let other = eqb-false e.child m t in get_or-set_other xs e.child m (entry_of e) 0 (λ q. other (sym q))
 
-  module _ (edges : List Edge) (i entry : ℕ) where
-    pub after_at :
-        (d : Edge) → i < length edges →
-        after_edges frames dom s m entry (drop i edges)
-        ≡ after_edges frames dom s m (after_edge frames dom s m entry (get_or edges i d)) (drop (i + 1) edges)
-    unfolding after_edges
-    after_at d inside = rw (add-one, drop-cons edges i d inside)
+  one : (xs : List ℕ) (entry : ℕ) → Held m xs entry → Held m (noted frames dom s xs e) (after_edge frames dom s m entry e)
+  one xs entry h = go (lands frames dom s e) refl
+    where
+      go : (l : Bool) → lands frames dom s e ≡ l → Held m (pick l (set xs e.child (entry_of e)) xs) (after_edge frames dom s m entry e)
+      go true l =
+          (omega (arith, h.0, length-set xs e.child (entry_of e)), rw h.1 at (stored xs l (λ here. h.0)))
+      go false l = (h.0, h.1 ∙ stays entry l)
 
-    pub after_end : length edges ≤ i → after_edges frames dom s m entry (drop i edges) ≡ entry
-    unfolding after_edges
-    after_end outside = rw (drop_of_length-le edges outside)
+pub noted_all :
+    (frames : List (List ℕ)) (dom : ℕ) (s : Span) (edges : List Edge) (xs : List ℕ) →
+    xs ≡ fold (noted frames dom s) (replicate entries 0) edges →
+    (m : ℕ) → m < entries → get_or xs m 0 ≡ expected frames dom s edges m
+unfolding after_edges
+noted_all frames dom s edges xs all m inside =
+    ap (λ ys. get_or ys m 0) all
+    ∙ (fold_along (noted frames dom s) (after_edge frames dom s m) (Held m) (λ ys entry e. one frames dom s m e ys entry) (replicate entries 0) 0 edges
+    (inside, get_or-replicate entries m 0 0 inside)).1

@@ -1,44 +1,36 @@
--- The first table and window from a position on: those there, or those from the next position on.
-use Prim.Native.Nat.{ℕ, ◌+◌, ◌≤◌, ◌<◌}
-use mathlib.Core.List.{List}
-use mathlib.Core.Path.{◌≡◌, sym, ap, ◌∙◌}
-use native.Mathlib.Numerals.{add-one}
-use lib.ListN.{length, get_or, drop, drop_of_length-le}
-use lib.Seq.{drop-cons}
+-- The first table and window, as code looks for them.
+use Rattle.std.proofs.Common.{◌≡◌, ℕ, ◌+◌, ◌<◌, ◌≤◌, Bool, true, false, List, [], ◌∷◌, Option, Some, None, cond, length, drop, get_or, refl}
+use Rattle.std.proofs.lemmas.List.{at_drop_more, at_drop_all}
+use Rattle.std.specs.List.{find}
+use Rattle.std.specs.Option.{option_map, option_or}
 use Rattle.fields.specs.Named.{pick}
+use Rattle.layout.specs.Layout.{table_at}
 use Rattle.layout.specs.declared.Table.{Table}
 use Rattle.layout.specs.declared.Window.{Window}
-use Rattle.exposed.specs.Exposed.{lies_in, first_window, or_else, first_table}
+use Rattle.exposed.specs.Exposed.{lies_in, first_window, first_table}
 use Rattle.exposed.specs.declared.Exposure.{Exposure}
-use Rattle.exposed.specs.declared.Exposure.TheVariants.{Table as Lies, Nothing}
 
-module _ (t : Table) (ws : List Window) (i : ℕ) where
-  pub window_at_lem :
-      (d : Window) → i < length ws →
-      first_window t (drop i ws)
-      ≡ pick (lies_in t (get_or ws i d)) (Lies t.code (get_or ws i d).code) (first_window t (drop (i + 1) ws))
-  unfolding first_window
-  window_at_lem d inside = rw (add-one, drop-cons ws i d)
+abbrev pub exposed_by : Table → Window → Exposure
+exposed_by t w = record { table = t.code; window = w.code }
 
-  pub window_end : length ws ≤ i → first_window t (drop i ws) ≡ Nothing
-  unfolding first_window
-  window_end past = rw (drop_of_length-le ws past)
+here_or_later :
+    (b : Bool) (t : Table) (w : Window) (later : Option Exposure) (found : Option Window) → later ≡ option_map (exposed_by t) found →
+    pick b (Some (exposed_by t w)) later ≡ option_map (exposed_by t) (cond b (Some w) found)
+here_or_later true t w later found e = refl
+here_or_later false t w later found e = e
 
-module _ (ts : List Table) (ws : List Window) (i : ℕ) where
-  pub table_at :
-      (d : Table) → i < length ts →
-      first_table (drop i ts) ws ≡ or_else (first_window (get_or ts i d) ws) (first_table (drop (i + 1) ts) ws)
-  unfolding first_table
-  table_at d inside = rw (add-one, drop-cons ts i d)
+pub window_found : (t : Table) (ws : List Window) → first_window t ws ≡ option_map (exposed_by t) (find (lies_in t) ws)
+unfolding first_window
+window_found t [] = refl
+window_found t (w ∷ ws) = here_or_later (lies_in t w) t w (first_window t ws) (find (lies_in t) ws) (window_found t ws)
 
-  pub table_end : length ts ≤ i → first_table (drop i ts) ws ≡ Nothing
-  unfolding first_table
-  table_end past = rw (drop_of_length-le ts past)
+-- the first table from a place on
+pub tables_from :
+    (ts : List Table) (i : ℕ) (ws : List Window) → i < length ts →
+    first_table (drop i ts) ws ≡ option_or (first_window (get_or ts i (table_at 0 0)) ws) (first_table (drop (i + 1) ts) ws)
+unfolding first_table
+tables_from ts i ws h = at_drop_more (λ us. first_table us ws) ts i (table_at 0 0) h
 
--- where a table lies in a window, that is the answer; else the tables after it decide
-module _ (e x rest : Exposure) where
-  pub stops : (t w : ℕ) → e ≡ x → e ≡ Lies t w → e ≡ or_else x rest
-  stops t w f g = g ∙ ap (λ y. or_else y rest) (sym g ∙ f)
-
-  pub goes_on : e ≡ x → e ≡ Nothing → or_else x rest ≡ rest
-  goes_on f g = ap (λ y. or_else y rest) (sym f ∙ g)
+pub tables_end : (ts : List Table) (i : ℕ) (ws : List Window) → length ts ≤ i → first_table (drop i ts) ws ≡ None
+unfolding first_table
+tables_end ts i ws h = at_drop_all (λ us. first_table us ws) ts i h

@@ -1,6 +1,7 @@
 -- Filling, by document 01 ("Leaf maps"): what edges leave in both maps, and rows 15 and 16 of its table, with 17 last.
-use Rattle.std.specs.Prelude.{ℕ, ltb, length, set, replicate}
-use mathlib.Core.List.{List, [], ◌∷◌, foldl}
+use Rattle.std.specs.Prelude.{Option, Some, None}
+use Rattle.std.specs.Prelude.{ℕ, List, [], ◌∷◌, ltb, length, set, replicate}
+use Rattle.std.specs.List.{fold}
 use Rattle.conflict.specs.Conflict.{row17}
 use Rattle.edge.specs.Edge.{entry_of, counts}
 use Rattle.edge.specs.declared.Edge.{Edge}
@@ -8,8 +9,6 @@ use Rattle.fields.specs.Named.{pick}
 use Rattle.p2m.specs.Frame.{kind_at, span_of_kind}
 use Rattle.p2m.specs.declared.Span.{Span}
 use Rattle.p2m.specs.declared.Span.TheVariants.{Base, Super}
-use Rattle.p2m.specs.declared.TableSpan.{TableSpan}
-use Rattle.p2m.specs.declared.TableSpan.TheVariants.{Leaves, Unsupported}
 use Rattle.refusal.specs.Table.{Row, row, Outcome, accepted, refused, first, each_from}
 use Rattle.rows.specs.Rows.{length_rows}
 
@@ -53,9 +52,9 @@ in_map Base p f = filling p.map f.sup p.outcome
 in_map Super p f = filling f.base p.map p.outcome
 
 -- parent kind 2 is base, 3 is super, else 15
-abbrev pub put_under : TableSpan → Filling → Edge → Filling
-put_under (Leaves s) f e = in_map s (put_in (map_of s f) e) f
-put_under Unsupported f e = filling f.base f.sup (refused (row15 e.parent))
+abbrev pub put_under : Option Span → Filling → Edge → Filling
+put_under (Some s) f e = in_map s (put_in (map_of s f) e) f
+put_under None f e = filling f.base f.sup (refused (row15 e.parent))
 
 -- one edge: skipped, or put under its parent's span
 unfoldable pub placed : List (List ℕ) → ℕ → Filling → Edge → Filling
@@ -75,7 +74,7 @@ placed_next frames dom f e = onward (λ h. placed frames dom h e) f
 
 -- the edges in order, up to the first that is refused
 unfoldable pub placed_all : List (List ℕ) → ℕ → List Edge → Filling → Filling
-placed_all frames dom edges f = foldl (placed_next frames dom) f edges
+placed_all frames dom edges f = fold (placed_next frames dom) f edges
 
 -- 17 is tested last, smallest first
 unfoldable pub conflicts : Filling → Filling

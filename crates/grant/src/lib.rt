@@ -13,36 +13,31 @@ pub struct Grant {
     pub writable: bool,
 }
 
-impl Grant {
-    // From a row of its four fields; of the flag zero is no and all else yes.
-    pub fn of(row: [u32; 4]) -> Grant
-        ensures { result ≡ grant_of row }
-    {
+// From a row of its four fields; of the flag zero is no and all else yes.
+impl From<[u32; 4]> for Grant {
+    ghost from_gives = { λ row g. g ≡ grant_of row };
+
+    fn from(row: [u32; 4]) -> Grant {
+        let [grantor, grantee, frame, writable] = row;
         Grant {
-            grantor: row[0],
-            grantee: row[1],
-            frame: row[2],
-            writable: row[3] != 0,
+            grantor,
+            grantee,
+            frame,
+            writable: writable != 0,
         }
     }
+}
 
+impl Grant {
     // Whether it lets `dom` read frame `mfn` of `owner`, or also write it. A grant for writing covers reading. The frame tells
     // most grants apart, so it comes first.
+    #[tactic(auto, unfolding(crate::specs::Grant::covers))]
     pub fn covers(self, owner: u16, dom: u16, mfn: u32, writable: bool) -> bool
         ensures { result ≡ covers owner dom mfn writable self }
     {
-        if self.frame != mfn {
-            return false;
-        }
-        if self.grantee != dom as u32 {
-            return false;
-        }
-        if self.grantor != owner as u32 {
-            return false;
-        }
-        if writable {
-            return self.writable;
-        }
-        true
+        self.frame == mfn
+            && self.grantee == u32::from(dom)
+            && self.grantor == u32::from(owner)
+            && (!writable || self.writable)
     }
 }

@@ -2,7 +2,7 @@
 use Prim.Native.Nat.{◌≤◌, ◌<◌}
 use native.Mathlib.Omega.{arith}
 use Rattle.granule.specs.Granule.{page_bits, level_bits, tg0}
-use Rattle.granule.specs.StartLevel.{number, sl0, span}
+use Rattle.granule.specs.StartLevel.{sl0, span}
 use Rattle.granule.specs.declared.Granule.TheVariants.{K4, K16, K64}
 use Rattle.granule.specs.declared.Granule.{Granule}
 use Rattle.granule.specs.declared.StartLevel.TheVariants.{L0, L1, L2, L3}
@@ -12,12 +12,6 @@ pub page_range : (g : Granule) → (12 ≤ page_bits g) × (page_bits g ≤ 16)
 page_range K4 = omega arith
 page_range K16 = omega arith
 page_range K64 = omega arith
-
-pub number_range : (l : StartLevel) → number l ≤ 3
-number_range L0 = omega arith
-number_range L1 = omega arith
-number_range L2 = omega arith
-number_range L3 = omega arith
 
 -- the walk resolves an index at least
 pub span_range : (l : StartLevel) (g : Granule) → (level_bits g ≤ span l g) × (span l g ≤ 68)

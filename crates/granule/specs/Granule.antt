@@ -1,10 +1,8 @@
 -- The translation granule, by DDI 0487: the bits of an address that a page and a level take, and TG0 of VTCR_EL2.
-use Rattle.std.specs.Prelude.{ℕ, ◌-◌, [], ◌∷◌}
+use Rattle.std.specs.Prelude.{Option, Some, None, ℕ, ◌-◌, [], ◌∷◌}
 use Rattle.fields.specs.Named.{named}
 use Rattle.granule.specs.declared.Granule.TheVariants.{K4, K16, K64}
 use Rattle.granule.specs.declared.Granule.{Granule}
-use Rattle.granule.specs.declared.GranuleNamed.TheVariants.{Granule as IsGranule, Reserved as NoGranule}
-use Rattle.granule.specs.declared.GranuleNamed.{GranuleNamed}
 
 -- the offset in a page of 4, 16 or 64 KB
 abbrev pub page_bits : Granule → ℕ
@@ -22,5 +20,5 @@ tg0 K4 = 0b00
 tg0 K64 = 0b01
 tg0 K16 = 0b10
 
-abbrev pub granule_named : ℕ → GranuleNamed
-granule_named = named tg0 (K4 ∷ K64 ∷ K16 ∷ []) IsGranule NoGranule
+abbrev pub granule_named : ℕ → Option Granule
+granule_named = named tg0 (K4 ∷ K64 ∷ K16 ∷ []) Some None

@@ -1,10 +1,8 @@
 -- The start level, by DDI 0487: the bits of an address that a walk from it resolves, and SL0 of VTCR_EL2.
-use Rattle.std.specs.Prelude.{ℕ, ◌+◌, ◌-◌, ◌*◌, [], ◌∷◌}
+use Rattle.std.specs.Prelude.{Option, Some, None, ℕ, ◌+◌, ◌-◌, ◌*◌, [], ◌∷◌}
 use Rattle.fields.specs.Named.{named}
 use Rattle.granule.specs.Granule.{page_bits, level_bits}
 use Rattle.granule.specs.declared.Granule.{Granule}
-use Rattle.granule.specs.declared.LevelNamed.TheVariants.{Level, Reserved as NoLevel}
-use Rattle.granule.specs.declared.LevelNamed.{LevelNamed}
 use Rattle.granule.specs.declared.StartLevel.TheVariants.{L0, L1, L2, L3}
 use Rattle.granule.specs.declared.StartLevel.{StartLevel}
 
@@ -25,5 +23,5 @@ sl0 L1 = 0b01
 sl0 L0 = 0b10
 sl0 L3 = 0b11
 
-abbrev pub level_named : ℕ → LevelNamed
-level_named = named sl0 (L2 ∷ L1 ∷ L0 ∷ L3 ∷ []) Level NoLevel
+abbrev pub level_named : ℕ → Option StartLevel
+level_named = named sl0 (L2 ∷ L1 ∷ L0 ∷ L3 ∷ []) Some None

@@ -7,32 +7,20 @@ ghost use Rattle.granule.specs.Granule.{page_bits, level_bits, tg0, granule_name
 ghost use Rattle.granule.specs.StartLevel.{number, sl0, level_named, span};
 
 // The translation granule: the size of a page.
-#[derive(Clone, Copy)]
+#[derive(Clone, Copy, PartialEq, Eq)]
 pub enum Granule {
     K4,
     K16,
     K64,
 }
 
-#[derive(Clone, Copy)]
-pub enum GranuleNamed {
-    Granule(Granule),
-    Reserved,
-}
-
 // The level that the walk starts at. Level 3 holds the pages.
-#[derive(Clone, Copy)]
+#[derive(Clone, Copy, PartialEq, Eq)]
 pub enum StartLevel {
     L0,
     L1,
     L2,
     L3,
-}
-
-#[derive(Clone, Copy)]
-pub enum LevelNamed {
-    Level(StartLevel),
-    Reserved,
 }
 
 impl Granule {
@@ -64,14 +52,14 @@ impl Granule {
         }
     }
 
-    pub fn from_tg0(v: u64) -> GranuleNamed
+    pub fn from_tg0(v: u64) -> Option<Granule>
         ensures { result ≡ granule_named v }
     {
         match v {
-            0b00 => GranuleNamed::Granule(Granule::K4),
-            0b01 => GranuleNamed::Granule(Granule::K64),
-            0b10 => GranuleNamed::Granule(Granule::K16),
-            _ => GranuleNamed::Reserved,
+            0b00 => Some(Granule::K4),
+            0b01 => Some(Granule::K64),
+            0b10 => Some(Granule::K16),
+            _ => None,
         }
     }
 }
@@ -99,19 +87,20 @@ impl StartLevel {
         }
     }
 
-    pub fn from_sl0(v: u64) -> LevelNamed
+    pub fn from_sl0(v: u64) -> Option<StartLevel>
         ensures { result ≡ level_named v }
     {
         match v {
-            0b00 => LevelNamed::Level(StartLevel::L2),
-            0b01 => LevelNamed::Level(StartLevel::L1),
-            0b10 => LevelNamed::Level(StartLevel::L0),
-            0b11 => LevelNamed::Level(StartLevel::L3),
-            _ => LevelNamed::Reserved,
+            0b00 => Some(StartLevel::L2),
+            0b01 => Some(StartLevel::L1),
+            0b10 => Some(StartLevel::L0),
+            0b11 => Some(StartLevel::L3),
+            _ => None,
         }
     }
 
     // Bits of the address that a walk from this level resolves.
+    #[tactic(auto, unfolding(crate::specs::StartLevel::span))]
     pub fn span(self, granule: Granule) -> u32
         ensures { result ≡ span self granule }
     {

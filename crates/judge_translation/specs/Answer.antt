@@ -1,10 +1,9 @@
 -- The manual's translation by numbers: a machine, an access and what stands outside the arena, and the answer.
+use Rattle.std.specs.Prelude.{Option, Some, None}
 use Rattle.std.specs.Prelude.{ℕ, Bool, ◌&&◌, List, [], ◌∷◌, eqb, get_or}
 use Rattle.descent.specs.Descent.{words_of}
 use Rattle.fields.specs.Named.{pick}
 use Rattle.fields.specs.Numbers.{nonzero}
-use Rattle.judge_translation.specs.declared.Translated.{Translated as Told}
-use Rattle.judge_translation.specs.declared.Translated.TheVariants.{Byte, Fault}
 use Rattle.manual.specs.Translation.{Access, reads, writes, executes, el0, el1, Machine, Translated, byte, fault, translation}
 
 -- a place is three numbers: the address named, the index, and the word that stands there
@@ -36,6 +35,6 @@ translation_answer arena tables places xnx access x =
     translated_numbers (translation (machine_of (nonzero xnx) places) tables (λ left. words_of arena) (access_numbered access) x)
 
 -- how the code carries an answer
-abbrev pub translated_of : Told → Translated
-translated_of (Byte pa) = byte pa
-translated_of Fault = fault
+abbrev pub translated_of : Option ℕ → Translated
+translated_of (Some pa) = byte pa
+translated_of None = fault

@@ -10,13 +10,6 @@ ghost use Rattle.manual.specs.Translation.{permits, leaf, level1, level2, level3
 
 use layout::Layout;
 
-// What an access gives: a byte of the output, or a fault.
-#[derive(Clone, Copy)]
-pub enum Translated {
-    Byte(u64),
-    Fault,
-}
-
 // 1 and the byte, or 0 and 0. A place is an address named, an index and the word that stands there, outside the arena. The accesses
 // are numbered: 0 reads, 1 writes, 2 executes at EL0, any other executes at EL1.
 #[unsafe(no_mangle)]
@@ -33,11 +26,11 @@ pub extern "C" fn judge_translation(
         ≡ translation_answer arena.now tables.now places.now xnx access ipa }
 {
     match translate(arena, tables, places, xnx != 0, access, ipa) {
-        Translated::Byte(pa) => {
+        Some(pa) => {
             *byte = [pa];
             1
         }
-        Translated::Fault => {
+        None => {
             *byte = [0];
             0
         }
@@ -51,14 +44,14 @@ fn translate(
     xnx: bool,
     access: u32,
     ipa: u64,
-) -> Translated
+) -> Option<u64>
     requires { length tables.now ≡ table_count }
     ensures { translated_of result
         ≡ translation (machine_of xnx places.now) tables.now (λ left. words_of arena.now)
         (access_numbered access) ipa }
 {
     if Layout::ADDRESSABLE <= ipa {
-        return Translated::Fault;
+        return None;
     }
     level1(arena, tables, places, xnx, access, ipa, tables[0])
 }
@@ -71,7 +64,7 @@ fn level1(
     access: u32,
     ipa: u64,
     named: u64,
-) -> Translated
+) -> Option<u64>
     requires { length tables.now ≡ table_count }
     ensures { translated_of result
         ≡ level1 (machine_of xnx places.now) tables.now (λ left. words_of arena.now)
@@ -84,7 +77,7 @@ fn level1(
         return level2(arena, tables, places, xnx, access, ipa, next);
     }
     if d % 4 != desc::BLOCK {
-        return Translated::Fault;
+        return None;
     }
     let first = d % Layout::OUTPUT_LIMIT / Layout::L1_ENTRY_SIZE * Layout::L1_ENTRY_SIZE;
     leaf(xnx, access, first + ipa % Layout::L1_ENTRY_SIZE, d)
@@ -98,7 +91,7 @@ fn level2(
     access: u32,
     ipa: u64,
     named: u64,
-) -> Translated
+) -> Option<u64>
     requires { length tables.now ≡ table_count }
     ensures { translated_of result
         ≡ level2 (machine_of xnx places.now) tables.now (λ left. words_of arena.now)
@@ -111,7 +104,7 @@ fn level2(
         return level3(arena, tables, places, xnx, access, ipa, next);
     }
     if d % 4 != desc::BLOCK {
-        return Translated::Fault;
+        return None;
     }
     let first = d % Layout::OUTPUT_LIMIT / Layout::BLOCK_SIZE * Layout::BLOCK_SIZE;
     leaf(xnx, access, first + ipa % Layout::BLOCK_SIZE, d)
@@ -125,7 +118,7 @@ fn level3(
     access: u32,
     ipa: u64,
     named: u64,
-) -> Translated
+) -> Option<u64>
     requires { length tables.now ≡ table_count }
     ensures { translated_of result
         ≡ level3 (machine_of xnx places.now) tables.now (λ left. words_of arena.now)
@@ -134,23 +127,23 @@ fn level3(
     let index = (ipa / Layout::PAGE_SIZE % Layout::INDICES) as usize;
     let d = lookup(arena, tables, places, named, index);
     if d % 4 != desc::PAGE {
-        return Translated::Fault;
+        return None;
     }
     let first = d % Layout::OUTPUT_LIMIT / Layout::PAGE_SIZE * Layout::PAGE_SIZE;
     leaf(xnx, access, first + ipa % Layout::PAGE_SIZE, d)
 }
 
 // The access flag clear faults, and so does an access that is not permitted.
-fn leaf(xnx: bool, access: u32, output: u64, d: u64) -> Translated
+fn leaf(xnx: bool, access: u32, output: u64, d: u64) -> Option<u64>
     ensures { translated_of result ≡ leaf xnx (access_numbered access) output d }
 {
     if d / desc::AF % 2 != 1 {
-        return Translated::Fault;
+        return None;
     }
     if permits(xnx, access, d) {
-        return Translated::Byte(output);
+        return Some(output);
     }
-    Translated::Fault
+    None
 }
 
 // S2AP's bit 6 reads, bit 7 writes; XN, bit 54, is set where EL0 does not execute, and where EL1 does not without FEAT_XNX.

@@ -1,15 +1,14 @@
 -- The layout's fields as numbers, and its tables.
-use Rattle.std.specs.Prelude.{ℕ, ◌+◌, ◌-◌, Bool, true, List, [], ◌∷◌, eqb, ltb, get_or}
+use Rattle.std.specs.Prelude.{Option, Some, None}
+use Rattle.std.specs.Prelude.{ℕ, ◌+◌, ◌-◌, List, [], ◌∷◌, eqb, ltb, get_or}
 use Rattle.fields.specs.Named.{pick}
 use Rattle.fields.specs.Numbers.{nonzero}
-use Rattle.layout.specs.declared.GuestImage.{GuestImage}
-use Rattle.layout.specs.declared.GuestImage.TheVariants.{At, Absent}
 use Rattle.layout.specs.declared.Layout.{Layout}
 use Rattle.layout.specs.declared.Table.{Table}
 
 -- where presence passes as a number, zero is no and all else yes
-abbrev pub image_of : ℕ → ℕ → GuestImage
-image_of present pa = pick (eqb present 0) Absent (At pa)
+abbrev pub image_of : ℕ → ℕ → Option ℕ
+image_of present pa = pick (eqb present 0) None (Some pa)
 
 -- fields 01 to 10
 abbrev pub field_count : ℕ
@@ -48,11 +47,8 @@ image_field = 7
 abbrev pub field_at : ℕ → ℕ
 field_at n = pick (ltb n image_field) (n - 1) n
 
-abbrev pub table_if : ℕ → Bool → ℕ → Table
-table_if n present pa = record { code = n; present = present; pa = pa }
-
 abbrev pub table_at : ℕ → ℕ → Table
-table_at n pa = table_if n true pa
+table_at n pa = record { code = n; pa = pa }
 
 -- l1, l2_code, l2_data, l3_data, l2_sup, l2_dev: tables 1 to 6
 abbrev pub tables_of : Layout → List Table

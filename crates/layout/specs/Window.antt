@@ -1,20 +1,17 @@
 -- The four windows of a layout: image and device map an address to itself.
+use Rattle.std.specs.Prelude.{Option, Some, None}
 use Rattle.std.specs.Prelude.{ℕ, ◌*◌, ◌/◌, ◌%◌, Bool, true, false, List, [], ◌∷◌, leb, ltb}
 use Rattle.fields.specs.Named.{pick}
 use Rattle.layout.specs.Size.{entries, page, block, l1_span, uncountable}
-use Rattle.layout.specs.declared.GuestImage.{GuestImage}
-use Rattle.layout.specs.declared.GuestImage.TheVariants.{At, Absent}
 use Rattle.layout.specs.declared.Layout.{Layout}
-use Rattle.layout.specs.declared.SuperWindow.TheVariants.{Counted, Uncountable}
-use Rattle.layout.specs.declared.SuperWindow.{SuperWindow}
 use Rattle.layout.specs.declared.Window.{Window}
 
 abbrev pub window : ℕ → Bool → ℕ → ℕ → ℕ → Window
 window n present ipa pa span = record { code = n; present = present; ipa = ipa; pa = pa; span = span }
 
-abbrev pub image_window : GuestImage → Window
-image_window (At pa) = window 1 true pa pa block
-image_window Absent = window 1 false 0 0 0
+abbrev pub image_window : Option ℕ → Window
+image_window (Some pa) = window 1 true pa pa block
+image_window None = window 1 false 0 0 0
 
 -- 512 pages
 abbrev pub data_window : Layout → Window
@@ -25,8 +22,8 @@ abbrev pub super_window : Layout → Window
 super_window l = window 3 true l.sup_ipa_base l.sup_pa_base (l.sup_frames * block)
 
 -- the same in 64 bits
-abbrev pub super_counted : Layout → SuperWindow
-super_counted l = pick (leb uncountable l.sup_frames) Uncountable (Counted (super_window l))
+abbrev pub super_counted : Layout → Option Window
+super_counted l = pick (leb uncountable l.sup_frames) None (Some (super_window l))
 
 -- present if its length is above 0
 abbrev pub device_window : Layout → Window

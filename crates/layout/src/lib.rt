@@ -7,13 +7,6 @@ ghost use Rattle.layout.specs.Layout.{image_of, tables_of};
 ghost use Rattle.layout.specs.Size.{first_word};
 ghost use Rattle.layout.specs.Window.{image_window, data_window, super_counted, device_window, devices_of, l1_slot, l2_slot, slot};
 
-// The address of the guest image, to which it is mapped itself; absent where a guest's code lies in its own memory.
-#[derive(Clone, Copy)]
-pub enum GuestImage {
-    At(u64),
-    Absent,
-}
-
 // The sixteen fields, numbered from 1 in this order.
 #[derive(Clone, Copy)]
 pub struct Layout {
@@ -23,7 +16,8 @@ pub struct Layout {
     pub l3_data_pa: u64,
     pub l2_sup_pa: u64,
     pub l2_dev_pa: u64,
-    pub guest_image_pa: GuestImage,
+    // The address of the guest image, to which it is mapped itself; none where a guest's code lies in its own memory.
+    pub guest_image_pa: Option<u64>,
     pub data_ipa_base: u64,
     pub data_pa_base: u64,
     pub frame_size: u64,
@@ -35,15 +29,15 @@ pub struct Layout {
     pub sup_frames: u64,
 }
 
-// A table's code, 1 to 6, and its address, if it is present.
+// A table's code, 1 to 6, and its address.
 #[derive(Clone, Copy)]
 pub struct Table {
     pub code: u64,
-    pub present: bool,
     pub pa: u64,
 }
 
-// A window's code, 1 to 4: `span` bytes from `ipa` on are mapped to those from `pa` on, if it is present.
+// A window's code, 1 to 4: `span` bytes from `ipa` on are mapped to those from `pa` on, if it is present. One that is not keeps its place and
+// code in `windows_of`: rows, regions and theorems find a window there by them, and an Option would hide both.
 #[derive(Clone, Copy)]
 pub struct Window {
     pub code: u64,
@@ -51,13 +45,6 @@ pub struct Window {
     pub ipa: u64,
     pub pa: u64,
     pub span: u64,
-}
-
-// The super window, if 64 bits hold its length.
-#[derive(Clone, Copy)]
-pub enum SuperWindow {
-    Counted(Window),
-    Uncountable,
 }
 
 // A base that must be aligned: its code among row 6's checks, 1 to 6, and whether it is not.
@@ -88,8 +75,6 @@ impl Layout {
     pub const BOARD_LIMIT: u64 = Self::OUTPUT_LIMIT;
 
     pub const DUMP_LIMIT: u64 = Self::OUTPUT_LIMIT;
-    // The first count of blocks whose length leaves 64 bits.
-    pub const UNCOUNTABLE: u64 = 0x800_0000_0000;
 
     // The words of a table, and the most entries of a map.
     pub const ENTRIES: usize = Self::INDICES as usize;
@@ -114,32 +99,26 @@ impl Layout {
         [
             Table {
                 code: 1,
-                present: true,
                 pa: self.l1_pa,
             },
             Table {
                 code: 2,
-                present: true,
                 pa: self.l2_code_pa,
             },
             Table {
                 code: 3,
-                present: true,
                 pa: self.l2_data_pa,
             },
             Table {
                 code: 4,
-                present: true,
                 pa: self.l3_data_pa,
             },
             Table {
                 code: 5,
-                present: true,
                 pa: self.l2_sup_pa,
             },
             Table {
                 code: 6,
-                present: true,
                 pa: self.l2_dev_pa,
             },
         ]
@@ -149,8 +128,7 @@ impl Layout {
     pub fn checks(self) -> [Check; Self::CHECKS]
         ensures { result ≡ checks_of self }
     {
-        let image_pa = self.guest_image_pa;
-        let image = image_pa.window();
+        let image = self.image_window();
         let device = self.device_window();
         [
             Check::of(1, true, self.data_ipa_base, Self::BLOCK_SIZE),
@@ -186,6 +164,27 @@ impl Layout {
         x / Self::BLOCK_SIZE % Self::INDICES
     }
 
+    pub fn image_window(self) -> Window
+        ensures { result ≡ image_window self.guest_image_pa }
+    {
+        match self.guest_image_pa {
+            Some(pa) => Window {
+                code: 1,
+                present: true,
+                ipa: pa,
+                pa,
+                span: Self::BLOCK_SIZE,
+            },
+            None => Window {
+                code: 1,
+                present: false,
+                ipa: 0,
+                pa: 0,
+                span: 0,
+            },
+        }
+    }
+
     pub fn data_window(self) -> Window
         ensures { result ≡ data_window self }
     {
@@ -198,15 +197,12 @@ impl Layout {
         }
     }
 
-    // Row 8 is its test.
-    pub fn super_window(self) -> SuperWindow
+    // The super window, if 64 bits hold its length: row 8 is its test.
+    pub fn super_window(self) -> Option<Window>
         ensures { result ≡ super_counted self }
     {
-        if Self::UNCOUNTABLE <= self.sup_frames {
-            return SuperWindow::Uncountable;
-        }
-        let span = self.sup_frames * Self::BLOCK_SIZE;
-        SuperWindow::Counted(Window {
+        let span = self.sup_frames.checked_mul(Self::BLOCK_SIZE)?;
+        Some(Window {
             code: 3,
             present: true,
             ipa: self.sup_ipa_base,
@@ -234,37 +230,11 @@ impl Layout {
     }
 }
 
-impl GuestImage {
-    // Of two numbers: presence is any number but zero.
-    pub fn of(present: u64, pa: u64) -> Self
-        ensures { result ≡ image_of present pa }
-    {
-        if present == 0 {
-            return Self::Absent;
-        }
-        Self::At(pa)
-    }
-
-    pub fn window(self) -> Window
-        ensures { result ≡ image_window self }
-    {
-        match self {
-            GuestImage::At(pa) => Window {
-                code: 1,
-                present: true,
-                ipa: pa,
-                pa,
-                span: Layout::BLOCK_SIZE,
-            },
-            GuestImage::Absent => Window {
-                code: 1,
-                present: false,
-                ipa: 0,
-                pa: 0,
-                span: 0,
-            },
-        }
-    }
+// The address of a guest image, of two numbers: presence is any number but zero.
+pub fn image_of(present: u64, pa: u64) -> Option<u64>
+    ensures { result ≡ image_of present pa }
+{
+    (present != 0).then_some(pa)
 }
 
 impl Window {

@@ -4,29 +4,48 @@
 ghost use Rattle.std.specs.Prelude.{◌≡◌};
 ghost use Rattle.layout.specs.Layout.{layout_of};
 
-use layout::{GuestImage, Layout};
+use layout::Layout;
 
 // The fields in their order, with whether there is an image just before the image.
+#[tactic(auto, unfolding(layout::specs::Layout::layout_of))]
 pub fn layout_of(x: &[u64; Layout::NUMBERS]) -> Layout
     ensures { result ≡ layout_of x.now }
 {
-    let guest_image_pa = GuestImage::of(x[6], x[7]);
+    let [
+        l1_pa,
+        l2_code_pa,
+        l2_data_pa,
+        l3_data_pa,
+        l2_sup_pa,
+        l2_dev_pa,
+        present,
+        image,
+        data_ipa_base,
+        data_pa_base,
+        frame_size,
+        sup_ipa_base,
+        sup_pa_base,
+        device_base,
+        device_len,
+        exempt,
+        sup_frames,
+    ] = *x;
     Layout {
-        l1_pa: x[0],
-        l2_code_pa: x[1],
-        l2_data_pa: x[2],
-        l3_data_pa: x[3],
-        l2_sup_pa: x[4],
-        l2_dev_pa: x[5],
-        guest_image_pa,
-        data_ipa_base: x[8],
-        data_pa_base: x[9],
-        frame_size: x[10],
-        sup_ipa_base: x[11],
-        sup_pa_base: x[12],
-        device_base: x[13],
-        device_len: x[14],
-        sup_wx_exempt: x[15] != 0,
-        sup_frames: x[16],
+        l1_pa,
+        l2_code_pa,
+        l2_data_pa,
+        l3_data_pa,
+        l2_sup_pa,
+        l2_dev_pa,
+        guest_image_pa: layout::image_of(present, image),
+        data_ipa_base,
+        data_pa_base,
+        frame_size,
+        sup_ipa_base,
+        sup_pa_base,
+        device_base,
+        device_len,
+        sup_wx_exempt: exempt != 0,
+        sup_frames,
     }
 }

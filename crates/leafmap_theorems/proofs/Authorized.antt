@@ -1,4 +1,5 @@
 -- `check_authorized_with` accepts exactly the authorized maps: each test of rows 23 and 24 is one way to reach a frame.
+use Rattle.std.specs.Prelude.{Option, Some, None}
 use Prim.Native.Nat.{ℕ}
 use mathlib.Core.Bool.{Bool, true, false, not, ◌&&◌, ◌||◌, false≢true}
 use mathlib.Core.List.{List, [], ◌∷◌, flat_map, Memᴰ}
@@ -13,11 +14,7 @@ use Rattle.grant.specs.Grant.{covers}
 use Rattle.grant.specs.declared.Grant.{Grant}
 use Rattle.leafmap_theorems.specs.Authorized.{Granted, MayReach, Authorized, AcceptsAuthorized}
 use Rattle.p2m.specs.Frame.{owner_of}
-use Rattle.p2m.specs.declared.Owner.{Owner}
-use Rattle.p2m.specs.declared.Owner.TheVariants.{Domain, Nobody}
 use Rattle.perm.specs.Perm.{perm_writes, entry_named}
-use Rattle.perm.specs.declared.Entry.TheVariants.{Mapped, Unmapped}
-use Rattle.perm.specs.declared.Entry.{Entry}
 use Rattle.perm.specs.declared.Perm.{Perm}
 use Rattle.refusal.proofs.None.{none, both, only, accept, from_none, from_nowhere}
 use Rattle.refusal.specs.Outcome.{row_of}
@@ -111,14 +108,14 @@ module _ (frames : List (List ℕ)) (grants : List Grant) (dom m : ℕ) (w : Boo
     where
       by :
           (o : ℕ) (own : Bool) →
-          owner_of frames m ≡ Domain o →
+          owner_of frames m ≡ Some o →
           eqb o dom ≡ own → (own || has_grant grants o dom m w) ≡ true → MayReach frames grants dom m w
-      by o true t q e = inl (t ∙ ap Domain (eqb-true o dom q))
+      by o true t q e = inl (t ∙ ap Some (eqb-true o dom q))
       by o false t q e = inr (record { owner = o; owns = t; grants_it = in_list o dom m w grants e })
 
-      go : (o : Owner) → owner_of frames m ≡ o → reaches grants dom m w o ≡ true → MayReach frames grants dom m w
-      go (Domain o) t e = by o (eqb o dom) t refl e
-      go Nobody t e = absurd (false≢true e)
+      go : (o : Option ℕ) → owner_of frames m ≡ o → reaches grants dom m w o ≡ true → MayReach frames grants dom m w
+      go (Some o) t e = by o (eqb o dom) t refl e
+      go None t e = absurd (false≢true e)
 
   reached : MayReach frames grants dom m w → reaches grants dom m w (owner_of frames m) ≡ true
   reached =
@@ -134,41 +131,41 @@ let_by w false x a b = absurd (false≢true (sym a))
 
 module _ (grants : List Grant) (dom m : ℕ) (p : Perm) where
   at_access :
-      (w : Bool) (o : Owner) →
+      (w : Bool) (o : Option ℕ) →
       (reaches grants dom m false o ≡ true) × (w ≡ true → reaches grants dom m true o ≡ true) → reaches grants dom m w o ≡ true
   at_access true o e = e.1 refl
   at_access false o e = e.0
 
-  no_owner_row : (o : Owner) → owner_rows grants dom m (Mapped p) o ≡ [] → reaches grants dom m (perm_writes p) o ≡ true
+  no_owner_row : (o : Option ℕ) → owner_rows grants dom m (Some p) o ≡ [] → reaches grants dom m (perm_writes p) o ≡ true
   unfolding owner_rows
-  no_owner_row (Domain o) e =
-      let rows = both (row23 grants dom m p (Domain o)) _ e in
-      at_access (perm_writes p) (Domain o)
-      (let_by (perm_writes p) (reaches grants dom m false (Domain o)) (reaches grants dom m true (Domain o))
-      (only _ (row_of (UnauthorizedMapping dom m (Domain o) p)) rows.0)
+  no_owner_row (Some o) e =
+      let rows = both (row23 grants dom m p (Some o)) _ e in
+      at_access (perm_writes p) (Some o)
+      (let_by (perm_writes p) (reaches grants dom m false (Some o)) (reaches grants dom m true (Some o))
+      (only _ (row_of (UnauthorizedMapping dom m (Some o) p)) rows.0)
       (only _ (row_of (WriteEscalation dom m o)) rows.1))
-  no_owner_row Nobody e =
-      absurd (false≢true (sym (only true (row_of (UnauthorizedMapping dom m Nobody p)) (both (row23 grants dom m p Nobody) _ e).0)))
+  no_owner_row None e =
+      absurd (false≢true (sym (only true (row_of (UnauthorizedMapping dom m None p)) (both (row23 grants dom m p None) _ e).0)))
 
 module _ (frames : List (List ℕ)) (grants : List Grant) (dom m byte : ℕ) where
   pub no_row_reaches :
       reach_rows frames grants dom m byte ≡ [] →
-      (p : Perm) → entry_named byte ≡ Mapped p → MayReach frames grants dom m (perm_writes p)
+      (p : Perm) → entry_named byte ≡ Some p → MayReach frames grants dom m (perm_writes p)
   no_row_reaches e p mapped =
       may_reach frames grants dom m (perm_writes p)
       (no_owner_row grants dom m p (owner_of frames m)
       (sym (of_owner frames grants dom m byte p mapped (owner_of frames m) refl) ∙ e))
 
   pub reaches_no_row :
-      ((p : Perm) → entry_named byte ≡ Mapped p → MayReach frames grants dom m (perm_writes p)) →
+      ((p : Perm) → entry_named byte ≡ Some p → MayReach frames grants dom m (perm_writes p)) →
       reach_rows frames grants dom m byte ≡ []
   reaches_no_row may = go (entry_named byte) refl
     where
-      go : (e : Entry) → entry_named byte ≡ e → reach_rows frames grants dom m byte ≡ []
-      go (Mapped p) e =
+      go : (e : Option Perm) → entry_named byte ≡ e → reach_rows frames grants dom m byte ≡ []
+      go (Some p) e =
           of_owner frames grants dom m byte p e (owner_of frames m) refl
           ∙ allowed grants dom m p (owner_of frames m) (reached frames grants dom m (perm_writes p) (may p e))
-      go Unmapped e = unmapped frames grants dom m byte e
+      go None e = unmapped frames grants dom m byte e
 
 sound :
     (frames : List (List ℕ)) (grants : List Grant) (dom : ℕ) (map : List ℕ) →

@@ -1,4 +1,5 @@
 -- The entries of an accepted filling: an edge that is placed changes an entry as `check_exact` expects, and edges in order do.
+use Rattle.std.specs.Prelude.{Option, Some, None}
 use Prim.Native.Nat.{ℕ, zero, suc}
 use mathlib.Core.Bool.{Bool, true, false}
 use mathlib.Core.List.{List, [], ◌∷◌}
@@ -18,8 +19,6 @@ use Rattle.leafmap_theorems.specs.Entries.{Entries, SameEntries}
 use Rattle.p2m.specs.Frame.{kind_at, span_of_kind}
 use Rattle.p2m.specs.declared.Span.{Span}
 use Rattle.p2m.specs.declared.Span.TheVariants.{Base, Super}
-use Rattle.p2m.specs.declared.TableSpan.{TableSpan}
-use Rattle.p2m.specs.declared.TableSpan.TheVariants.{Leaves, Unsupported}
 use Rattle.refusal.proofs.None.{refused≢accepted}
 use Rattle.refusal.specs.Table.{row, Outcome, accepted, refused}
 
@@ -31,26 +30,26 @@ put_by b xs e =
 module _ (frames : List (List ℕ)) (dom p : ℕ) where
   in_map_lem :
       (s u : Span) (f : Filling) (e : Edge) (b : Bool) →
-      lands frames dom s e ≡ is_span s (Leaves u) →
+      lands frames dom s e ≡ is_span s (Some u) →
       ltb e.child (length (map_of u f)) ≡ b →
       (in_map u (put_by b (map_of u f) e) f).outcome ≡ accepted →
       get_or (map_of s (in_map u (put_by b (map_of u f) e) f)) p 0 ≡ after_edge frames dom s p (get_or (map_of s f) p 0) e
-  in_map_lem Base Base f e true l t a = stored frames dom Base p e f.base l (ltb-true _ _ t)
+  in_map_lem Base Base f e true l t a = stored frames dom Base p e f.base l (λ here. rw here at (ltb-true _ _ t))
   in_map_lem Base Super f e true l t a = stays frames dom Base p e (get_or f.base p 0) l
   in_map_lem Super Base f e true l t a = stays frames dom Super p e (get_or f.sup p 0) l
-  in_map_lem Super Super f e true l t a = stored frames dom Super p e f.sup l (ltb-true _ _ t)
+  in_map_lem Super Super f e true l t a = stored frames dom Super p e f.sup l (λ here. rw here at (ltb-true _ _ t))
   in_map_lem s Base f e false l t a = absurd (refused≢accepted _ a)
   in_map_lem s Super f e false l t a = absurd (refused≢accepted _ a)
 
   module _ (s : Span) where
     under :
-        (f : Filling) (e : Edge) (t : TableSpan) →
+        (f : Filling) (e : Edge) (t : Option Span) →
         lands frames dom s e ≡ is_span s t →
         (put_under t f e).outcome ≡ accepted →
         get_or (map_of s (put_under t f e)) p 0 ≡ after_edge frames dom s p (get_or (map_of s f) p 0) e
     unfolding put_in
-    under f e (Leaves u) l a = in_map_lem s u f e (ltb e.child (length (map_of u f))) l refl a
-    under f e Unsupported l a = absurd (refused≢accepted _ a)
+    under f e (Some u) l a = in_map_lem s u f e (ltb e.child (length (map_of u f))) l refl a
+    under f e None l a = absurd (refused≢accepted _ a)
 
     one :
         (f : Filling) (e : Edge) →
@@ -59,7 +58,7 @@ module _ (frames : List (List ℕ)) (dom p : ℕ) where
     unfolding placed lands
     one f e a = go (counts frames dom e) refl a
       where
-        found : TableSpan
+        found : Option Span
         found = span_of_kind (kind_at frames e.parent)
 
         go :

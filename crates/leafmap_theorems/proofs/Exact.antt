@@ -1,4 +1,5 @@
 -- Maps that the filling accepted pass `check_exact`: their lengths stay, they hold codes, and their entries are the expected ones.
+use Rattle.std.specs.Prelude.{Option, Some, None}
 use Prim.Native.Nat.{ℕ, ◌≤◌, zero-le}
 use mathlib.Core.Bool.{Bool, true, false, ◌&&◌}
 use mathlib.Core.List.{List, [], ◌∷◌, flat_map}
@@ -17,12 +18,9 @@ use Rattle.filling.specs.Filling.{filled_into, filled}
 use Rattle.layout.specs.Size.{entries as mapEntries}
 use Rattle.leafmap_theorems.specs.Entries.{FilledExact}
 use Rattle.leafmap_theorems.proofs.Entries.{put_by, placed_maps, entries}
-use Rattle.lent_rows.proofs.Codes.{no_row3}
 use Rattle.p2m.specs.Frame.{kind_at, span_code, span_of_kind}
 use Rattle.p2m.specs.declared.Span.{Span}
 use Rattle.p2m.specs.declared.Span.TheVariants.{Base, Super}
-use Rattle.p2m.specs.declared.TableSpan.{TableSpan}
-use Rattle.p2m.specs.declared.TableSpan.TheVariants.{Leaves, Unsupported}
 use Rattle.perm.specs.Perm.{perm_code}
 use Rattle.perm.specs.declared.Perm.TheVariants.{Ro, Rw, Rx}
 use Rattle.refusal.proofs.None.{none, both, test, accept, refused≢accepted, from_nowhere}
@@ -41,18 +39,18 @@ kept_by Super Base f e b = refl
 kept_by Super Super f e true = length-set f.sup e.child (entry_of e)
 kept_by Super Super f e false = refl
 
-kept_under : (s : Span) (t : TableSpan) (f : Filling) (e : Edge) → length (map_of s (put_under t f e)) ≡ length (map_of s f)
+kept_under : (s : Span) (t : Option Span) (f : Filling) (e : Edge) → length (map_of s (put_under t f e)) ≡ length (map_of s f)
 unfolding put_in
-kept_under s (Leaves u) f e = kept_by s u f e (ltb e.child (length (map_of u f)))
-kept_under Base Unsupported f e = refl
-kept_under Super Unsupported f e = refl
+kept_under s (Some u) f e = kept_by s u f e (ltb e.child (length (map_of u f)))
+kept_under Base None f e = refl
+kept_under Super None f e = refl
 
 module _ (frames : List (List ℕ)) (dom : ℕ) (s : Span) where
   pub kept_one : (f : Filling) (e : Edge) → length (map_of s (placed frames dom f e)) ≡ length (map_of s f)
   unfolding placed
   kept_one f e = go (counts frames dom e)
     where
-      found : TableSpan
+      found : Option Span
       found = span_of_kind (kind_at frames e.parent)
 
       go : (b : Bool) → length (map_of s (pick b (put_under found f e) f)) ≡ length (map_of s f)
@@ -96,6 +94,10 @@ module _ (frames : List (List ℕ)) (dom : ℕ) (s : Span) (p : ℕ) where
 no_row25 : (dom : ℕ) (wanted : ℕ → ℕ) (m entry : ℕ) → entry ≡ wanted m → row25 dom wanted m entry ≡ []
 unfolding row25
 no_row25 dom wanted m entry e = rw (eq-eqb _ _ e)
+
+no_row3 : (code p byte : ℕ) → byte ≤ 3 → row3 code p byte ≡ []
+unfolding row3
+no_row3 code p byte h = rw (le-ltb _ _ h)
 
 passes :
     (frames : List (List ℕ)) (dom : ℕ) (s : Span) (edges : List Edge) (xs : List ℕ) →

@@ -1,5 +1,6 @@
 -- Longer maps take every edge that shorter ones take, hold the same entries, and so have no conflict that these have not: all can be
 -- filled at full length.
+use Rattle.std.specs.Prelude.{Option, Some, None}
 use Prim.Native.Nat.{ℕ, ◌≤◌, ◌<◌}
 use mathlib.Core.Bool.{Bool, true, false, ◌&&◌}
 use mathlib.Core.List.{List, [], ◌∷◌}
@@ -23,8 +24,6 @@ use Rattle.leafmap_theorems.proofs.Exact.{kept_one, fit, into, short}
 use Rattle.p2m.specs.Frame.{kind_at, span_of_kind}
 use Rattle.p2m.specs.declared.Span.{Span}
 use Rattle.p2m.specs.declared.Span.TheVariants.{Base, Super}
-use Rattle.p2m.specs.declared.TableSpan.{TableSpan}
-use Rattle.p2m.specs.declared.TableSpan.TheVariants.{Leaves, Unsupported}
 use Rattle.refusal.proofs.None.{none, accept, from_none, from_nowhere, refused≢accepted}
 use Rattle.refusal.specs.Table.{accepted, refuse_if}
 
@@ -45,14 +44,14 @@ takes : (xs : List ℕ) (e : Edge) → e.child < length xs → (put_by (ltb e.ch
 takes xs e h = ap (λ b. (put_by b xs e).outcome) (lt-ltb _ _ h)
 
 under :
-    (t : TableSpan) (f g : Filling) (e : Edge) → Longer f g →
+    (t : Option Span) (f g : Filling) (e : Edge) → Longer f g →
     (put_under t f e).outcome ≡ accepted → (put_under t g e).outcome ≡ accepted
 unfolding put_in
-under (Leaves u) f g e long a =
+under (Some u) f g e long a =
     let b = ltb e.child (length (map_of u f)) in
     let h = inside (map_of u f) e b refl (sym (outcome_of_lem u f e b) ∙ a) in
     outcome_of_lem u g e (ltb e.child (length (map_of u g))) ∙ takes (map_of u g) e (omega (arith, h, long u))
-under Unsupported f g e long a = absurd (refused≢accepted _ a)
+under None f g e long a = absurd (refused≢accepted _ a)
 
 module _ (frames : List (List ℕ)) (dom : ℕ) where
   one :
@@ -61,7 +60,7 @@ module _ (frames : List (List ℕ)) (dom : ℕ) where
   unfolding placed
   one f g e long b a = go (counts frames dom e) a
     where
-      found : TableSpan
+      found : Option Span
       found = span_of_kind (kind_at frames e.parent)
 
       go : (c : Bool) → (pick c (put_under found f e) f).outcome ≡ accepted → (pick c (put_under found g e) g).outcome ≡ accepted

@@ -1,4 +1,5 @@
 -- What a refused filling holds: 15 and 16 stop it at the first edge whose step is refused, 17 comes after all edges.
+use Rattle.std.specs.Prelude.{Option, Some, None}
 use Prim.Native.Nat.{ℕ}
 use mathlib.Core.Bool.{Bool, true, false}
 use mathlib.Core.List.{List, [], ◌∷◌, ◌++◌}
@@ -15,8 +16,6 @@ use Rattle.filling.specs.Filling.{Filling, map_of, put_in, in_map, put_under, pl
 use Rattle.p2m.specs.Frame.{kind_at, span_of_kind}
 use Rattle.p2m.specs.declared.Span.{Span}
 use Rattle.p2m.specs.declared.Span.TheVariants.{Base, Super}
-use Rattle.p2m.specs.declared.TableSpan.{TableSpan}
-use Rattle.p2m.specs.declared.TableSpan.TheVariants.{Leaves, Unsupported}
 use Rattle.refusal.proofs.None.{refused≢accepted}
 use Rattle.refusal.specs.Table.{Row, Outcome, accepted, refused}
 use Rattle.leafmap_theorems.specs.Entries.{Stopped, Conflicting, RefusedHolds}
@@ -46,12 +45,12 @@ held_by Base Base f e r true h = absurd (refused≢accepted r (sym h))
 held_by Super Super f e r true h = absurd (refused≢accepted r (sym h))
 
 held_under :
-    (s : Span) (t : TableSpan) (f : Filling) (e : Edge) (r : Row) →
+    (s : Span) (t : Option Span) (f : Filling) (e : Edge) (r : Row) →
     (put_under t f e).outcome ≡ refused r → map_of s (put_under t f e) ≡ map_of s f
 unfolding put_in
-held_under s (Leaves u) f e r h = held_by s u f e r (ltb e.child (length (map_of u f))) h
-held_under Base Unsupported f e r h = refl
-held_under Super Unsupported f e r h = refl
+held_under s (Some u) f e r h = held_by s u f e r (ltb e.child (length (map_of u f))) h
+held_under Base None f e r h = refl
+held_under Super None f e r h = refl
 
 module _ (frames : List (List ℕ)) (dom : ℕ) where
   unchanged :
@@ -60,7 +59,7 @@ module _ (frames : List (List ℕ)) (dom : ℕ) where
   unfolding placed
   unchanged s f e r h = go (counts frames dom e) h
     where
-      found : TableSpan
+      found : Option Span
       found = span_of_kind (kind_at frames e.parent)
 
       go :

@@ -2,3 +2,4 @@ pub mod Again
 pub mod Dropped
 pub mod Element
 pub mod Lent
+pub mod Local

@@ -7,79 +7,79 @@ ghost use Rattle.refusal.specs.Table.{first, each_from};
 ghost use Rattle.rows.specs.Rows.{row1, row2, row3, read_rows, length_rows, map_rows};
 
 use layout::Layout;
-use refusal::{Refusal, Verdict};
+use refusal::{Refusal, first};
 
 // Row 1.
-pub fn arena_len(arena: &[u64]) -> Verdict
+#[tactic(auto, unfolding(rows::specs::Rows::row1, refusal::specs::Table::first))]
+pub fn arena_len(arena: &[u64]) -> Result<(), Refusal>
     ensures { outcome_of result ≡ first (row1 arena.now) }
 {
     if arena.len() != Layout::ARENA_LEN {
-        return Verdict::Refused(Refusal::ArenaLength);
+        return Err(Refusal::ArenaLength);
     }
-    Verdict::Accepted
+    Ok(())
 }
 
 // Row 2, of one map.
-pub fn map_len(map: &[u8]) -> Verdict
+#[tactic(auto, unfolding(rows::specs::Rows::row2, refusal::specs::Table::first))]
+pub fn map_len(map: &[u8]) -> Result<(), Refusal>
     ensures { outcome_of result ≡ first (row2 map.now) }
 {
     if Layout::ENTRIES < map.len() {
-        return Verdict::Refused(Refusal::MapLength);
+        return Err(Refusal::MapLength);
     }
-    Verdict::Accepted
+    Ok(())
 }
 
 // Row 3, of one map that is read. The pass that finds no position has no branch to take, and most maps need no other.
-pub fn map_codes(code: u64, map: &[u8]) -> Verdict
+#[tactic(auto, using(crate::proofs::Codes::all_codes))]
+pub fn map_codes(code: u64, map: &[u8]) -> Result<(), Refusal>
     ensures { outcome_of result ≡ first (each_from (row3 code) 0 map.now) }
 {
     if map_entries::largest(map) <= 3 {
-        return Verdict::Accepted;
+        return Ok(());
     }
-    for i in 0..map.len() {
-        if 3 < map[i] {
-            return Verdict::Refused(Refusal::MapCode {
-                map: code,
-                position: i as u64,
-            });
-        }
+    first::each_from(map, |p, byte| readable(code, p, byte))
+}
+
+// Row 3.
+#[tactic(auto, unfolding(rows::specs::Rows::row3, refusal::specs::Table::first))]
+fn readable(code: u64, p: usize, byte: u8) -> Result<(), Refusal>
+    ensures { outcome_of result ≡ first (row3 code p byte) }
+{
+    if 3 < byte {
+        return Err(Refusal::MapCode {
+            map: code,
+            position: p as u64,
+        });
     }
-    Verdict::Accepted
+    Ok(())
 }
 
 // Rows 2 and 3, of one map that is read.
-pub fn read_map(code: u64, map: &[u8]) -> Verdict
+#[tactic(auto, using(refusal::proofs::Sequence::in_turn), unfolding(rows::specs::Rows::read_rows))]
+pub fn read_map(code: u64, map: &[u8]) -> Result<(), Refusal>
     ensures { outcome_of result ≡ first (read_rows code map.now) }
 {
-    let short = map_len(map);
-    let Verdict::Accepted = short else {
-        return short;
-    };
+    map_len(map)?;
     map_codes(code, map)
 }
 
 // Row 2, of both maps.
-pub fn map_lens(base: &[u8], sup: &[u8]) -> Verdict
+#[tactic(auto, using(refusal::proofs::Sequence::in_turn), unfolding(rows::specs::Rows::length_rows))]
+pub fn map_lens(base: &[u8], sup: &[u8]) -> Result<(), Refusal>
     ensures { outcome_of result ≡ first (length_rows base.now sup.now) }
 {
-    let verdict = map_len(base);
-    let Verdict::Accepted = verdict else {
-        return verdict;
-    };
+    map_len(base)?;
     map_len(sup)
 }
 
 // Rows 2 and 3, of both maps where they are read.
-pub fn maps(base: &[u8], sup: &[u8]) -> Verdict
+#[tactic(auto, using(refusal::proofs::Sequence::in_turn), unfolding(rows::specs::Rows::map_rows))]
+pub fn maps(base: &[u8], sup: &[u8]) -> Result<(), Refusal>
     ensures { outcome_of result ≡ first (map_rows base.now sup.now) }
 {
-    let short = map_lens(base, sup);
-    let Verdict::Accepted = short else {
-        return short;
-    };
-    let codes = map_codes(1, base);
-    let Verdict::Accepted = codes else {
-        return codes;
-    };
+    map_lens(base, sup)?;
+    map_codes(1, base)?;
     map_codes(2, sup)
 }

@@ -1,4 +1,6 @@
 -- Over ordinary words the walk and the manual go the same way, level by level, and read the same leaf.
+use Rattle.std.specs.Prelude.{Some, None, Option}
+use Rattle.reach.specs.declared.Reach.{Reach}
 use Prim.Native.Nat.{ℕ, zero, suc, ◌+◌, ◌%◌}
 use mathlib.Core.Bool.{Bool, true, false, ◌||◌, false≢true}
 use mathlib.Core.List.{List, [], ◌∷◌}
@@ -6,7 +8,6 @@ use mathlib.Core.Path.{◌≡◌, refl, sym, ap, ◌∙◌}
 use native.Mathlib.Omega.{arith}
 use lib.Dec.{eqb, ltb}
 use borrow.Author.Tests.{eq-eqb}
-use Rattle.decode.specs.declared.DecodedTable.TheVariants.{At, Nothing as NoTable}
 use Rattle.desc.specs.Descriptor.{descriptor_type, block_type, table_type, page_type, page_address, block_address}
 use Rattle.descent.specs.Descent.{Words, index, fetch_from, ends_at, leads}
 use Rattle.fields.specs.Bits.{bits}
@@ -16,8 +17,6 @@ use Rattle.manual.specs.Agreement.{alike, among, ordinary, WalksAgree}
 use Rattle.manual.specs.Translation.{Access, Machine, Translated, fault, allowed}
 use Rattle.manual.proofs.Alike.{leaves_agree}
 use Rattle.manual.proofs.OneDescent.{from, answer, walk_descent, walk_descends, manual_ends, manual_descent, manual_descends}
-use Rattle.reach.specs.declared.Reached.TheVariants.{Nothing}
-use Rattle.reach.specs.declared.Reached.{Reached}
 use Rattle.walk.specs.Walk.{reading}
 
 -- a table that is among those listed is read whatever stands outside, and its words are the arena's
@@ -113,14 +112,14 @@ module _ (m : Machine) (ts : List ℕ) (a : Access) (x : ℕ) where
         down : ℕ → Translated
         down = from (manual_descent m a) ts x ws left
 
-        below : ℕ → Reached
+        below : ℕ → Option Reach
         below = from walk_descent ts x ws left
 
         go :
             (d : ℕ) → ordinary xnx ts (suc left) d ≡ true → (b : Bool) → eqb (descriptor_type d) table_type ≡ b →
             ((next : ℕ) → among ts next ≡ true → down next ≡ allowed a (below next)) →
-            leads (pick b (At (page_address d)) NoTable) down (manual_ends m a x (suc left) d)
-            ≡ allowed a (leads (pick b (At (page_address d)) NoTable) below (reading x (ends_at (suc left) d)))
+            leads (pick b (Some (page_address d)) None) down (manual_ends m a x (suc left) d)
+            ≡ allowed a (leads (pick b (Some (page_address d)) None) below (reading x (ends_at (suc left) d)))
         go d o true e on = on (page_address d) (names left d e o)
         go d o false e on = ends left d e o
 
@@ -137,6 +136,6 @@ walks_agree m l1 others ws all a x =
     go :
         (b : Bool) →
         pick b (from (manual_descent m a) (l1 ∷ others) x ws 2 l1) fault
-        ≡ allowed a (pick b (from walk_descent (l1 ∷ others) x ws 2 l1) Nothing)
+        ≡ allowed a (pick b (from walk_descent (l1 ∷ others) x ws 2 l1) None)
     go true = agree m (l1 ∷ others) a x ws all 2 l1 first
     go false = refl

@@ -1,4 +1,6 @@
 -- A leaf word is read alike exactly where `alike` says so: by its five bits.
+use Rattle.std.specs.Prelude.{Option, Some, None}
+use Rattle.reach.specs.declared.Reach.{Reach}
 use Prim.Native.Nat.{ℕ, ◌+◌, ◌*◌, ◌<◌}
 use mathlib.Core.Bool.{Bool, true, false, not, ◌&&◌, ◌||◌}
 use mathlib.Core.Path.{◌≡◌, refl, sym, ap, ◌∙◌}
@@ -12,8 +14,6 @@ use Rattle.fields.specs.Named.{pick}
 use Rattle.fields.specs.Numbers.{bit}
 use Rattle.perm.specs.declared.Perm.TheVariants.{Ro, Rw}
 use Rattle.perm.specs.declared.Perm.{Perm}
-use Rattle.reach.specs.declared.Reached.{Reached}
-use Rattle.reach.specs.declared.Reached.TheVariants.{At, Nothing}
 use Rattle.walk.specs.Walk.{leaf_reach}
 use Rattle.manual.specs.Agreement.{alike, Agrees, LeavesAgree}
 use Rattle.manual.specs.Translation.{Level, el0, el1, Access, reads, writes, executes, Translated, byte, fault, leaf, allowed}
@@ -39,11 +39,11 @@ permits_bits xnx (executes el) r w n k = executable_bits xnx el n k
 abbrev leaf_bits : Bool → Access → ℕ → ℕ → ℕ → ℕ → ℕ → ℕ → Translated
 leaf_bits xnx a out r w f n k = pick (eqb f 1 && permits_bits xnx a r w n k) (byte out) fault
 
-abbrev reach_bits : ℕ → Perm → ℕ → Reached
-reach_bits out p n = At (record { pa = out; perm = p; xn = eqb n 1 })
+abbrev reach_bits : ℕ → Perm → ℕ → Option Reach
+reach_bits out p n = Some (record { pa = out; perm = p; xn = eqb n 1 })
 
-abbrev read_bits : ℕ → ℕ → ℕ → ℕ → Reached
-read_bits out r w n = pick (eqb (r + 2 * w) 3) (reach_bits out Rw n) (pick (eqb (r + 2 * w) 1) (reach_bits out Ro n) Nothing)
+abbrev read_bits : ℕ → ℕ → ℕ → ℕ → Option Reach
+read_bits out r w n = pick (eqb (r + 2 * w) 3) (reach_bits out Rw n) (pick (eqb (r + 2 * w) 1) (reach_bits out Ro n) None)
 
 abbrev AgreesBits : Bool → ℕ → ℕ → ℕ → ℕ → ℕ → Type 0
 AgreesBits xnx r w f n k = (a : Access) (out : ℕ) → leaf_bits xnx a out r w f n k ≡ allowed a (read_bits out r w n)
@@ -132,14 +132,14 @@ both_bits d = omega arith
 
 read_access : (s pa offset : ℕ) (never : Bool) →
     leaf_reach offset (leaf_of pa never (access_named s))
-    ≡ pick (eqb s 3) (At (record { pa = pa + offset; perm = Rw; xn = never }))
-    (pick (eqb s 1) (At (record { pa = pa + offset; perm = Ro; xn = never })) Nothing)
+    ≡ pick (eqb s 3) (Some (record { pa = pa + offset; perm = Rw; xn = never }))
+    (pick (eqb s 1) (Some (record { pa = pa + offset; perm = Ro; xn = never })) None)
 read_access s pa offset never = go (eqb s 3) (eqb s 1) refl refl
   where
     go : (b c : Bool) → eqb s 3 ≡ b → eqb s 1 ≡ c →
         leaf_reach offset (leaf_of pa never (access_named s))
-        ≡ pick b (At (record { pa = pa + offset; perm = Rw; xn = never }))
-        (pick c (At (record { pa = pa + offset; perm = Ro; xn = never })) Nothing)
+        ≡ pick b (Some (record { pa = pa + offset; perm = Rw; xn = never }))
+        (pick c (Some (record { pa = pa + offset; perm = Ro; xn = never })) None)
     go true c e f = rw e
     go false true e f = rw (e, f)
     go false false e f = rw (e, f)
@@ -147,7 +147,7 @@ read_access s pa offset never = go (eqb s 3) (eqb s 1) refl refl
 reads_bits : (d pa offset : ℕ) → leaf_reach offset (leaf_at pa d) ≡ read_bits (pa + offset) (bits 6 6 d) (bits 7 7 d) (xn d)
 reads_bits d pa offset =
     read_access (s2ap d) pa offset (execute_never d)
-    ∙ ap (λ (s : ℕ). pick (eqb s 3) (reach_bits (pa + offset) Rw (xn d)) (pick (eqb s 1) (reach_bits (pa + offset) Ro (xn d)) Nothing))
+    ∙ ap (λ (s : ℕ). pick (eqb s 3) (reach_bits (pa + offset) Rw (xn d)) (pick (eqb s 1) (reach_bits (pa + offset) Ro (xn d)) None))
     (both_bits d)
 
 by_access : (xnx : Bool) (a : Access) (out d : ℕ)

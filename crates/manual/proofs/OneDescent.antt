@@ -1,4 +1,6 @@
 -- The walk and the manual's translation are one descent, with words read in two ways; and what holds of every such descent.
+use Rattle.std.specs.Prelude.{Option, Some, None}
+use Rattle.reach.specs.declared.Reach.{Reach}
 use Prim.Native.Nat.{ℕ, zero, suc, ◌+◌, ◌*◌, ◌^◌, ◌<◌}
 use mathlib.Core.Bool.{Bool, true, false}
 use mathlib.Core.List.{List, [], ◌∷◌}
@@ -9,8 +11,6 @@ use lib.Dec.{eqb, ltb}
 use lib.ListN.{get_or}
 use borrow.Author.Tests.{eq-eqb}
 use Rattle.decode.specs.Decoded.{decoded_table}
-use Rattle.decode.specs.declared.DecodedTable.{DecodedTable}
-use Rattle.decode.specs.declared.DecodedTable.TheVariants.{At, Nothing as NoTable}
 use Rattle.desc.specs.Descriptor.{descriptor_type, block_type, table_type, page_type, page_address, block_address}
 use Rattle.descent.specs.Descent.{Words, index, fetch_from, fetch, ends_at, next_table, leads, descend}
 use Rattle.descent.specs.declared.Stop.TheVariants.{Stopped}
@@ -18,18 +18,16 @@ use Rattle.fields.specs.Bits.{bits}
 use Rattle.fields.specs.Named.{pick}
 use Rattle.layout.specs.Size.{entries, input_limit}
 use Rattle.manual.specs.Translation.{Machine, Access, Translated, fault, leaf, lookup, level1, level2, level3, translation}
-use Rattle.reach.specs.declared.Reached.{Reached}
-use Rattle.reach.specs.declared.Reached.TheVariants.{Nothing}
 use Rattle.walk.specs.Walk.{reading, walk_of}
 
 -- how words are read: what stands outside the arena, by the table named and the index; the table that a word leads to; and the answer where
 -- it leads to none, by the address and the levels left. 0 leads to none, and says nothing
 pub record Descent (A : Type 0) : Type 0 where
   pub outside : ℕ → ℕ → ℕ
-  pub next : ℕ → DecodedTable
+  pub next : ℕ → Option ℕ
   pub ends : ℕ → ℕ → ℕ → A
   pub nothing : A
-  pub zero_leads : next 0 ≡ NoTable
+  pub zero_leads : next 0 ≡ None
   pub zero_ends : (x left : ℕ) → ends x left 0 ≡ nothing
 
 module _ {A : Type 0} (r : Descent A) (x : ℕ) where
@@ -54,18 +52,18 @@ module _ {A : Type 0} (r : Descent A) (tables : List ℕ) (x : ℕ) where
 
 -- the walk
 
-pub zero_stops : (x left : ℕ) → reading x (ends_at left 0) ≡ Nothing
+pub zero_stops : (x left : ℕ) → reading x (ends_at left 0) ≡ None
 zero_stops x zero = refl
 zero_stops x (suc zero) = refl
 zero_stops x (suc (suc left)) = refl
 
-abbrev pub walk_descent : Descent Reached
+abbrev pub walk_descent : Descent (Option Reach)
 walk_descent =
     record {
       outside = λ named j. 0;
       next = next_table;
       ends = λ x left d. reading x (ends_at left d);
-      nothing = Nothing;
+      nothing = None;
       zero_leads = refl;
       zero_ends = zero_stops;
     }
@@ -78,12 +76,12 @@ module _ (tables : List ℕ) (ws : ℕ → Words) (x : ℕ) where
       let d = word_at walk_descent tables x ws (suc left) named in go d (next_table d) (walk_from left)
     where
       go :
-          (d : ℕ) (t : DecodedTable) →
+          (d : ℕ) (t : Option ℕ) →
           ((next : ℕ) → reading x (descend tables ws left next x) ≡ from walk_descent tables x ws left next) →
           reading x (leads t (λ next. descend tables ws left next x) (ends_at (suc left) d))
           ≡ leads t (from walk_descent tables x ws left) (reading x (ends_at (suc left) d))
-      go d (At next) below = below next
-      go d NoTable below = refl
+      go d (Some next) below = below next
+      go d None below = refl
 
   pub walk_descends : walk_of tables ws x ≡ answer walk_descent tables x ws
   unfolding walk_of answer
@@ -92,7 +90,7 @@ module _ (tables : List ℕ) (ws : ℕ → Words) (x : ℕ) where
       go :
           (low : Bool) →
           reading x (pick low (descend tables ws 2 (get_or tables 0 0) x) (Stopped 0))
-          ≡ pick low (from walk_descent tables x ws 2 (get_or tables 0 0)) Nothing
+          ≡ pick low (from walk_descent tables x ws 2 (get_or tables 0 0)) None
       go true = walk_from 2 (get_or tables 0 0)
       go false = refl
 
@@ -129,7 +127,7 @@ module _ (m : Machine) (a : Access) where
         pick (eqb (descriptor_type d) table_type) (down (page_address d)) here ≡ leads (decoded_table d) below here
     onward d here down below same = go (eqb (descriptor_type d) table_type)
       where
-        go : (b : Bool) → pick b (down (page_address d)) here ≡ leads (pick b (At (page_address d)) NoTable) below here
+        go : (b : Bool) → pick b (down (page_address d)) here ≡ leads (pick b (Some (page_address d)) None) below here
         go true = same (page_address d)
         go false = refl
 
@@ -189,7 +187,7 @@ module _ {A : Type 0} (r : Descent A) (tables : List ℕ) (x : ℕ) (ws vs : ℕ
   PathAgrees zero named = word 0 named ≡ word' 0 named
   PathAgrees (suc left) named =
       (word (suc left) named ≡ word' (suc left) named)
-      × ((next : ℕ) → r.next (word (suc left) named) ≡ At next → PathAgrees left next)
+      × ((next : ℕ) → r.next (word (suc left) named) ≡ Some next → PathAgrees left next)
 
   keeps_from : (left named : ℕ) → PathAgrees left named → from r tables x ws left named ≡ from r tables x vs left named
   unfolding from
@@ -199,12 +197,12 @@ module _ {A : Type 0} (r : Descent A) (tables : List ℕ) (x : ℕ) (ws vs : ℕ
       ∙ ap (says r x left (from r tables x vs left)) p.0
     where
       go :
-          (t : DecodedTable) → r.next (word (suc left) named) ≡ t →
-          ((next : ℕ) → r.next (word (suc left) named) ≡ At next → from r tables x ws left next ≡ from r tables x vs left next) →
+          (t : Option ℕ) → r.next (word (suc left) named) ≡ t →
+          ((next : ℕ) → r.next (word (suc left) named) ≡ Some next → from r tables x ws left next ≡ from r tables x vs left next) →
           leads t (from r tables x ws left) (r.ends x (suc left) (word (suc left) named))
           ≡ leads t (from r tables x vs left) (r.ends x (suc left) (word (suc left) named))
-      go (At next) e below = below next e
-      go NoTable e below = refl
+      go (Some next) e below = below next e
+      go None e below = refl
 
   pub keeps : PathAgrees 2 (get_or tables 0 0) → answer r tables x ws ≡ answer r tables x vs
   unfolding answer
@@ -226,7 +224,7 @@ module _ {A : Type 0} (r : Descent A) (tables : List ℕ) (x : ℕ) (ws vs : ℕ
   PathBreaks (suc left) named =
       (word' (suc left) named ≡ 0)
       ⊎ ((word (suc left) named ≡ word' (suc left) named)
-      × ((next : ℕ) × ((r.next (word (suc left) named) ≡ At next) × PathBreaks left next)))
+      × ((next : ℕ) × ((r.next (word (suc left) named) ≡ Some next) × PathBreaks left next)))
 
   broken_from : (left named : ℕ) → PathBreaks left named → from r tables x vs left named ≡ r.nothing
   unfolding from
@@ -277,10 +275,10 @@ module _ {A : Type 0} (r : Descent A) (x : ℕ) where
         down_whole next = from r tables x (λ n. whole) left next
 
         led :
-            (t : DecodedTable) (here : A) → ((next : ℕ) → Either (down next) (down_whole next) r.nothing) →
+            (t : Option ℕ) (here : A) → ((next : ℕ) → Either (down next) (down_whole next) r.nothing) →
             Either (leads t down here) (leads t down_whole here) r.nothing
-        led (At next) here below = below next
-        led NoTable here below = inl refl
+        led (Some next) here below = below next
+        led None here below = inl refl
 
         go :
             {a b : ℕ} → Either a b 0 → ((next : ℕ) → Either (down next) (down_whole next) r.nothing) →

@@ -1,5 +1,6 @@
 -- Stage 2 translation, from DDI 0487 alone: VMSAv8-64, 4 KB granule, 39-bit input, start level 1, 48 output bits. Shared with the
 -- walk are the index bits and the fetch.
+use Rattle.std.specs.Prelude.{Option, Some, None}
 use Rattle.std.specs.Prelude.{ℕ, ◌+◌, ◌*◌, ◌^◌, Bool, true, false, not, ◌&&◌, List, eqb, ltb, get_or}
 use Rattle.desc.specs.Descriptor.{descriptor_type, block_type, table_type, page_type, af, page_address, block_address}
 use Rattle.descent.specs.Descent.{Words, index, fetch}
@@ -7,8 +8,6 @@ use Rattle.fields.specs.Bits.{bits}
 use Rattle.fields.specs.Named.{pick}
 use Rattle.perm.specs.Perm.{perm_writes}
 use Rattle.reach.specs.declared.Reach.{Reach}
-use Rattle.reach.specs.declared.Reached.{Reached}
-use Rattle.reach.specs.declared.Reached.TheVariants.{At, Nothing}
 
 -- what a guest does with an address; an instruction is fetched at EL0 or EL1
 pub data Level : Type 0 where
@@ -81,6 +80,6 @@ lets reads r = true
 lets writes r = perm_writes r.perm
 lets (executes el) r = not r.xn
 
-abbrev pub allowed : Access → Reached → Translated
-allowed a (At r) = pick (lets a r) (byte r.pa) fault
-allowed a Nothing = fault
+abbrev pub allowed : Access → Option Reach → Translated
+allowed a (Some r) = pick (lets a r) (byte r.pa) fault
+allowed a None = fault

@@ -8,21 +8,13 @@ ghost use Rattle.map_entries.specs.Larger.{largest};
 pub fn entry_at(map: &[u8], m: usize) -> u8
     ensures { result ≡ get_or map.now m 0 }
 {
-    if map.len() <= m {
-        return 0;
-    }
-    map[m]
+    map.get(m).copied().unwrap_or(0)
 }
 
 // The largest byte of a map, 0 where it has none.
+#[tactic(auto, unfolding(crate::specs::Larger::largest))]
 pub fn largest(map: &[u8]) -> u8
     ensures { result ≡ largest map.now }
 {
-    let mut most = 0;
-    for i in 0..map.len() {
-        if most < map[i] {
-            most = map[i];
-        }
-    }
-    most
+    map.iter().fold(0, |most, b| most.max(*b))
 }

@@ -4,7 +4,7 @@
 ghost use Rattle.std.specs.Prelude.{◌≡◌};
 ghost use Rattle.memtype.specs.Memory.{mair_byte, leaf_bits, shareability_bits};
 
-#[derive(Clone, Copy)]
+#[derive(Clone, Copy, PartialEq, Eq)]
 pub enum MemoryType {
     // Normal, write-back, inner shareable.
     NormalWbIsh,
@@ -19,9 +19,9 @@ impl MemoryType {
         ensures { result ≡ mair_byte self }
     {
         match self {
-            MemoryType::NormalWbIsh => 0xff,
-            MemoryType::NormalNonCacheable => 0x44,
-            MemoryType::DeviceNGnRnE => 0x00,
+            Self::NormalWbIsh => 0xff,
+            Self::NormalNonCacheable => 0x44,
+            Self::DeviceNGnRnE => 0x00,
         }
     }
 
@@ -29,11 +29,12 @@ impl MemoryType {
     pub fn stage2_leaf_bits(self) -> u64
         ensures { result ≡ leaf_bits self }
     {
-        match self {
-            MemoryType::NormalWbIsh => (0b1111 << 2) | (0b11 << 8),
-            MemoryType::NormalNonCacheable => 0b0101 << 2,
-            MemoryType::DeviceNGnRnE => 0b0000 << 2,
-        }
+        let mem_attr: u64 = match self {
+            Self::NormalWbIsh => 0b1111,
+            Self::NormalNonCacheable => 0b0101,
+            Self::DeviceNGnRnE => 0b0000,
+        };
+        (mem_attr << 2) | self.shareability_bits()
     }
 
     // SH, at the same bits in both stages.
@@ -41,9 +42,8 @@ impl MemoryType {
         ensures { result ≡ shareability_bits self }
     {
         match self {
-            MemoryType::NormalWbIsh => 0b11 << 8,
-            MemoryType::NormalNonCacheable => 0b00 << 8,
-            MemoryType::DeviceNGnRnE => 0b00 << 8,
+            Self::NormalWbIsh => 0b11 << 8,
+            Self::NormalNonCacheable | Self::DeviceNGnRnE => 0b00 << 8,
         }
     }
 }

@@ -5,7 +5,7 @@ ghost use Rattle.std.specs.Prelude.{◌≡◌};
 ghost use Rattle.page_type.specs.PageType.{kind_of, level_of_kind, type_code, level_of_type, child_type};
 
 // The level of a page table. L1 is the bottom: its entries map ordinary pages.
-#[derive(Clone, Copy)]
+#[derive(Clone, Copy, PartialEq, Eq)]
 pub enum PtLevel {
     L1,
     L2,
@@ -14,35 +14,21 @@ pub enum PtLevel {
 }
 
 // What a frame is referenced as.
-#[derive(Clone, Copy)]
+#[derive(Clone, Copy, PartialEq, Eq)]
 pub enum PageType {
     Writable,
     PageTable(PtLevel),
 }
 
-// The type that an interior entry must reference, if a table of that level can have one.
-#[derive(Clone, Copy)]
-pub enum ChildType {
-    Child(PageType),
-    Nothing,
-}
-
-// The level of a page table, if it is one.
-#[derive(Clone, Copy)]
-pub enum TableLevel {
-    Level(PtLevel),
-    Nothing,
-}
-
 impl PtLevel {
-    pub fn interior_child_type(self) -> ChildType
+    pub fn interior_child_type(self) -> Option<PageType>
         ensures { result ≡ child_type self }
     {
         match self {
-            PtLevel::L1 => ChildType::Nothing,
-            PtLevel::L2 => ChildType::Child(PageType::PageTable(PtLevel::L1)),
-            PtLevel::L3 => ChildType::Child(PageType::PageTable(PtLevel::L2)),
-            PtLevel::L4 => ChildType::Child(PageType::PageTable(PtLevel::L3)),
+            PtLevel::L1 => None,
+            PtLevel::L2 => Some(PageType::PageTable(PtLevel::L1)),
+            PtLevel::L3 => Some(PageType::PageTable(PtLevel::L2)),
+            PtLevel::L4 => Some(PageType::PageTable(PtLevel::L3)),
         }
     }
 
@@ -60,12 +46,12 @@ impl PtLevel {
 }
 
 impl PageType {
-    pub fn level(self) -> TableLevel
+    pub fn level(self) -> Option<PtLevel>
         ensures { result ≡ level_of_type self }
     {
         match self {
-            PageType::Writable => TableLevel::Nothing,
-            PageType::PageTable(level) => TableLevel::Level(level),
+            PageType::Writable => None,
+            PageType::PageTable(level) => Some(level),
         }
     }
 
@@ -81,14 +67,14 @@ impl PageType {
 }
 
 // The level of the table that a frame of this kind is.
-pub fn level_of_kind(kind: u32) -> TableLevel
+pub fn level_of_kind(kind: u32) -> Option<PtLevel>
     ensures { result ≡ level_of_kind kind }
 {
     match kind {
-        2 => TableLevel::Level(PtLevel::L1),
-        3 => TableLevel::Level(PtLevel::L2),
-        4 => TableLevel::Level(PtLevel::L3),
-        5 => TableLevel::Level(PtLevel::L4),
-        _ => TableLevel::Nothing,
+        2 => Some(PtLevel::L1),
+        3 => Some(PtLevel::L2),
+        4 => Some(PtLevel::L3),
+        5 => Some(PtLevel::L4),
+        _ => None,
     }
 }

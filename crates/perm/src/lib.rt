@@ -5,18 +5,11 @@ ghost use Rattle.std.specs.Prelude.{◌≡◌};
 ghost use Rattle.perm.specs.Perm.{perm_code, perm_writes, perm_executes, entry_code, entry_named};
 
 // There is none that is writable and executable.
-#[derive(Clone, Copy)]
+#[derive(Clone, Copy, PartialEq, Eq)]
 pub enum Perm {
     Ro,
     Rw,
     Rx,
-}
-
-// An entry of a leaf map.
-#[derive(Clone, Copy)]
-pub enum Entry {
-    Mapped(Perm),
-    Unmapped,
 }
 
 impl Perm {
@@ -52,25 +45,24 @@ impl Perm {
     }
 }
 
-impl Entry {
-    // The entry that a byte of a map says: what is no permission's code is unmapped.
-    pub fn of(code: u8) -> Entry
-        ensures { result ≡ entry_named code }
-    {
-        match code {
-            1 => Entry::Mapped(Perm::Ro),
-            2 => Entry::Mapped(Perm::Rw),
-            3 => Entry::Mapped(Perm::Rx),
-            _ => Entry::Unmapped,
-        }
+// The entry that a byte of a map says: what is no permission's code is unmapped.
+pub fn entry_named(code: u8) -> Option<Perm>
+    ensures { result ≡ entry_named code }
+{
+    match code {
+        1 => Some(Perm::Ro),
+        2 => Some(Perm::Rw),
+        3 => Some(Perm::Rx),
+        _ => None,
     }
+}
 
-    pub fn code(self) -> u8
-        ensures { result ≡ entry_code self }
-    {
-        match self {
-            Entry::Mapped(perm) => perm.code(),
-            Entry::Unmapped => 0,
-        }
+// The byte of a map that says an entry.
+pub fn entry_code(entry: Option<Perm>) -> u8
+    ensures { result ≡ entry_code entry }
+{
+    match entry {
+        Some(perm) => perm.code(),
+        None => 0,
     }
 }

@@ -1,14 +1,15 @@
--- A text lies in the front of its buffer, and the line of a row is no longer than the longest.
-use Rattle.std.specs.Prelude.{ℕ, zero, suc, ◌+◌, ◌/◌, ◌%◌, ◌≤◌, Bool, true, false, List, [], ◌∷◌, ltb, length, drop}
-use Rattle.std.proofs.Common.{arith, ap}
+-- Texts in the front of a buffer, and the longest line of a row.
+use Rattle.std.specs.Prelude.{ℕ, zero, suc, ◌+◌, ◌/◌, ◌%◌, ◌≤◌, Bool, true, false, [], ◌∷◌, ltb, length}
+use Rattle.std.proofs.Common.{arith}
 use Rattle.std.proofs.lemmas.List.{length-append}
+use Rattle.std.proofs.lemmas.Grind.{common_steps}
 use Rattle.fields.specs.Ascii.{line_feed}
 use Rattle.fields.specs.Named.{pick}
-use Rattle.printed.specs.Line.{decimal, refused_line, longest, Puts}
+use Rattle.printed.specs.Line.{decimal, refused_line, longest}
+use Rattle.text.proofs.Front.{put_first, put_next}
 
-pub lies_within : (text old : List ℕ) (n : ℕ) (new : List ℕ) → Puts text old n new → n ≤ length new
-lies_within text old n new p =
-    omega (arith, p.long, ap length p.bytes, length-append text (drop (length text) old))
+-- texts put one after the other
+pub ruleset in_turn = (put_first, put_next, common_steps)
 
 -- as many digits as there is room for
 few_digits : (k n : ℕ) → length (decimal k n) ≤ k

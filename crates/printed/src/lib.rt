@@ -3,13 +3,18 @@
 
 ghost use Rattle.std.specs.Prelude.{◌+◌, ◌%◌, ◌≤◌, ◌≡◌, length, drop};
 ghost use Rattle.std.proofs.Math.Seq.{paste};
-ghost use Rattle.printed.specs.Line.{bad_line, refused_line, decimal, longest, Puts};
+ghost use Rattle.printed.specs.Line.{bad_line, refused_line, decimal, Puts};
 ghost use Rattle.printed.specs.Word.{word_line};
 
 // The longest line: REFUSED, a space, 20 digits and a line feed.
 pub const LINE: usize = 29;
 
-// Where a line says nothing. The line stands in the front of the buffer; returns its length, as the others do.
+// The most digits of a number.
+const DIGITS: usize = 20;
+
+// Where a line says nothing. The line stands in the front of the buffer; returns its length, as the others do: a part of the buffer that
+// is handed on cannot say what stays of the rest.
+#[tactic(auto, using(text::proofs::Front::put_first), unfolding(crate::specs::Line::bad_line))]
 pub fn bad_line(out: &mut [u8; LINE]) -> usize
     ensures { Puts bad_line out.old result out.new }
 {
@@ -17,17 +22,11 @@ pub fn bad_line(out: &mut [u8; LINE]) -> usize
 }
 
 // A refused scene, by the row's number.
+#[tactic(auto, using(crate::proofs::Front::in_turn), unfolding(crate::specs::Line::refused_line))]
 pub fn refused_line(number: u64, out: &mut [u8; LINE]) -> usize
     ensures { Puts (refused_line number) out.old result out.new }
 {
-    put_refused(number, out)
-}
-
-fn put_refused(number: u64, out: &mut [u8]) -> usize
-    requires { length out.old ≡ longest }
-    ensures { Puts (refused_line number) out.old result out.new }
-{
-    let mut digits = [0; 20];
+    let mut digits = [0; DIGITS];
     let first = spell_decimal(number, &mut digits);
     let from = put(b"REFUSED ", out, 0);
     let end = put(&digits[first..], out, from);
@@ -35,19 +34,20 @@ fn put_refused(number: u64, out: &mut [u8]) -> usize
 }
 
 // A number's decimal digits, at the end of the buffer; returns the index of the first.
-fn spell_decimal(number: u64, out: &mut [u8; 20]) -> usize
-    ensures within { result ≤ 20 }
-    ensures digits { drop result out.new ≡ decimal 20 number }
+#[tactic(auto, using(crate::proofs::Decimal::decimals, std::proofs::lemmas::Grind::common_steps))]
+fn spell_decimal(number: u64, out: &mut [u8; DIGITS]) -> usize
+    ensures within { result ≤ DIGITS }
+    ensures digits { drop result out.new ≡ decimal DIGITS number }
 {
-    let mut at = 19;
-    out[at] = last_digit(number);
-    let mut rest = number / 10;
-    while 0 < at && rest != 0 {
-        at -= 1;
+    let mut rest = number;
+    for at in (0..DIGITS).rev() {
         out[at] = last_digit(rest);
+        if rest < 10 {
+            return at;
+        }
         rest /= 10;
     }
-    at
+    0
 }
 
 fn last_digit(number: u64) -> u8
@@ -57,6 +57,7 @@ fn last_digit(number: u64) -> u8
 }
 
 // A text from an index of the buffer on; returns the index after it.
+#[tactic(auto, using(text::proofs::Front::room))]
 fn put(text: &[u8], out: &mut [u8], at: usize) -> usize
     requires { at + length text.now ≤ length out.old }
     ensures value { result ≡ at + length text.now }
@@ -67,6 +68,7 @@ fn put(text: &[u8], out: &mut [u8], at: usize) -> usize
 }
 
 // A word of a table, by its table and index.
+#[tactic(auto, using(text::proofs::Front::put_first))]
 pub fn word_line(table: u64, index: u64, word: u64, out: &mut [u8; LINE]) -> usize
     ensures { Puts (word_line table index word) out.old result out.new }
 {

@@ -1,17 +1,17 @@
 -- The functions 16 to 18: the decoding of VTCR_EL2, and VTTBR_EL2.
+use Rattle.regime.specs.declared.Stage2Regime.{Stage2Regime}
+use Rattle.sizes.specs.declared.VmidBits.{VmidBits}
 use Rattle.std.specs.Prelude.{ℕ, ◌+◌, List, [], ◌∷◌}
 use Rattle.fields.specs.Numbers.{eight}
 use Rattle.granule.specs.Granule.{tg0}
 use Rattle.granule.specs.StartLevel.{sl0}
 use Rattle.sizes.specs.Codes.{ps, vs}
 use Rattle.sizes.specs.declared.VmidBits.TheVariants.{B8, B16}
-use Rattle.vtcr.specs.declared.DecodedVtcr.TheVariants.{Regime, Nothing}
-use Rattle.vtcr.specs.declared.DecodedVtcr.{DecodedVtcr}
 use Rattle.vttbr.specs.Vttbr.{baddr, vmid_of}
 
 -- 16: one more than VS, so that it is not nothing, then the regime's fields in the struct's order
-abbrev pub decoded_numbers : DecodedVtcr → List ℕ
-decoded_numbers (Regime r b) =
+abbrev pub decoded_numbers : Stage2Regime × VmidBits → List ℕ
+decoded_numbers (r, b) =
     (vs b + 1)
     ∷ tg0 r.granule
     ∷ r.ipa_bits
@@ -21,7 +21,6 @@ decoded_numbers (Regime r b) =
     ∷ r.walk_inner
     ∷ r.walk_outer
     ∷ []
-decoded_numbers Nothing = eight []
 
 -- 18: the base, and the VMID in both widths
 abbrev pub part_numbers : ℕ → List ℕ

@@ -1,71 +1,30 @@
 // Table levels and page types by numbers.
 ghost use Rattle.std.specs.Prelude.{◌≡◌};
-ghost use Rattle.page_type.specs.PageType.{level_of_kind};
-ghost use Rattle.probe_numbers.specs.Levels.{child_number, table_level_numbers, type_named, level_number, type_numbers};
+ghost use Rattle.probe_numbers.specs.Levels.{table_level_numbers, type_named, type_numbers};
 
-use page_type::{ChildType, PageType, PtLevel, TableLevel};
+use crate::eight;
+use page_type::{PageType, PtLevel};
 
-// A page type by its code: 1 is writable, a page table has its kind.
-#[derive(Clone, Copy)]
-enum TypeNamed {
-    Named(PageType),
-    Nothing,
-}
-
-pub fn level(kind: u32) -> [u64; 8]
-    ensures { result ≡ table_level_numbers (level_of_kind kind) }
+pub fn level(l: PtLevel) -> [u64; 8]
+    ensures { result ≡ table_level_numbers l }
 {
-    let TableLevel::Level(l) = page_type::level_of_kind(kind) else {
-        return [0; 8];
-    };
-    [
-        l.kind() as u64,
-        child_number(l.interior_child_type()),
-        0,
-        0,
-        0,
-        0,
-        0,
-        0,
-    ]
+    eight([
+        l.kind().into(),
+        l.interior_child_type().map_or(0, |t| t.code().into()),
+    ])
 }
 
-pub fn page_type(code: u32) -> [u64; 8]
-    ensures { result ≡ type_numbers (type_named code) }
-{
-    let TypeNamed::Named(t) = type_named(code) else {
-        return [0; 8];
-    };
-    [level_number(t.level()), 0, 0, 0, 0, 0, 0, 0]
-}
-
-fn type_named(code: u32) -> TypeNamed
+pub fn type_named(code: u32) -> Option<PageType>
     ensures { result ≡ type_named code }
 {
     match code {
-        1 => TypeNamed::Named(PageType::Writable),
-        2 => TypeNamed::Named(PageType::PageTable(PtLevel::L1)),
-        3 => TypeNamed::Named(PageType::PageTable(PtLevel::L2)),
-        4 => TypeNamed::Named(PageType::PageTable(PtLevel::L3)),
-        5 => TypeNamed::Named(PageType::PageTable(PtLevel::L4)),
-        _ => TypeNamed::Nothing,
+        1 => Some(PageType::Writable),
+        _ => page_type::level_of_kind(code).map(PageType::PageTable),
     }
 }
 
-fn level_number(l: TableLevel) -> u64
-    ensures { result ≡ level_number l }
+pub fn page_type(t: PageType) -> [u64; 8]
+    ensures { result ≡ type_numbers t }
 {
-    match l {
-        TableLevel::Level(l) => l.kind() as u64,
-        TableLevel::Nothing => 0,
-    }
-}
-
-fn child_number(c: ChildType) -> u64
-    ensures { result ≡ child_number c }
-{
-    match c {
-        ChildType::Child(t) => t.code() as u64,
-        ChildType::Nothing => 0,
-    }
+    eight([t.level().map_or(0, |l| l.kind().into())])
 }

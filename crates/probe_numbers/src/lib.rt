@@ -1,9 +1,29 @@
 // What the functions of the lower layers answer, as eight numbers: for the comparison with the Rust alone.
 #![tactic(auto)]
 
+ghost use Rattle.std.specs.Prelude.{◌≤◌, ◌≡◌};
+ghost use Rattle.fields.specs.Numbers.{eight, low};
+
 pub mod frames;
 pub mod granules;
 pub mod levels;
 pub mod regimes;
 pub mod registers;
 pub mod words;
+
+// The numbers given, and zeros up to eight.
+pub fn eight<const N: usize>(numbers: [u64; N]) -> [u64; 8]
+    requires { N ≤ 8 }
+    ensures { result ≡ eight numbers.entry }
+{
+    let mut all = [0; 8];
+    all[..N].copy_from_slice(&numbers);
+    all
+}
+
+// A 32-bit number.
+pub fn low(n: u64) -> u32
+    ensures { result ≡ low n }
+{
+    (n % 0x1_0000_0000) as u32
+}

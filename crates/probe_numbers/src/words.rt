@@ -1,74 +1,48 @@
 // perm, memtype, desc and decode by numbers.
 ghost use Rattle.std.specs.Prelude.{◌≡◌};
-ghost use Rattle.probe_numbers.specs.Words.{perm_named, perm_numbers, memory_numbers, encoding_numbers, constant_numbers, word_numbers};
+ghost use Rattle.probe_numbers.specs.Words.{permission_answer, memory_named, memory_numbers, constant_numbers, word_numbers};
 ghost use Rattle.probe_numbers.specs.Words.{leaf_numbers, table_numbers, device_numbers};
 
-use decode::{DecodedBlock, DecodedLeaf, DecodedTable};
+use crate::eight;
+use decode::{Decoded, DecodedDevice};
 use memtype::MemoryType;
-use perm::Perm;
 
-// A permission by its code.
-#[derive(Clone, Copy)]
-enum PermNamed {
-    Perm(Perm),
-    Nothing,
-}
-
-pub fn permission(code: u64, wx_exempt: bool) -> [u64; 8]
-    ensures { result ≡ perm_numbers (perm_named code) wx_exempt }
+// A permission by its code, and the exemption.
+pub fn permission(code: u64, wx_exempt: bool) -> Option<[u64; 8]>
+    ensures { result ≡ permission_answer code wx_exempt }
 {
-    let PermNamed::Perm(p) = perm_named(code) else {
-        return [0; 8];
-    };
-    let a = desc::leaf_access_xn(p, wx_exempt);
-    let access = a.access;
-    [
-        p.writable() as u64,
-        p.executable() as u64,
-        desc::page_leaf_attrs(p),
-        desc::block_leaf_attrs(p, wx_exempt),
-        access.code() as u64,
-        a.xn as u64,
-        0,
-        0,
-    ]
+    let perm = perm::entry_named(u8::try_from(code).ok()?)?;
+    let leaf = desc::leaf_access_xn(perm, wx_exempt);
+    Some(eight([
+        perm.writable().into(),
+        perm.executable().into(),
+        desc::page_leaf_attrs(perm),
+        desc::block_leaf_attrs(perm, wx_exempt),
+        leaf.access.code().into(),
+        leaf.xn.into(),
+    ]))
 }
 
-fn perm_named(code: u64) -> PermNamed
-    ensures { result ≡ perm_named code }
+pub fn memory_named(code: u64) -> Option<MemoryType>
+    ensures { result ≡ memory_named code }
 {
     match code {
-        1 => PermNamed::Perm(Perm::Ro),
-        2 => PermNamed::Perm(Perm::Rw),
-        3 => PermNamed::Perm(Perm::Rx),
-        _ => PermNamed::Nothing,
+        0 => Some(MemoryType::NormalWbIsh),
+        1 => Some(MemoryType::NormalNonCacheable),
+        2 => Some(MemoryType::DeviceNGnRnE),
+        _ => None,
     }
 }
 
-pub fn memory_type(code: u64) -> [u64; 8]
-    ensures { result ≡ memory_numbers code }
+pub fn memory_type(t: MemoryType) -> [u64; 8]
+    ensures { result ≡ memory_numbers t }
 {
-    match code {
-        0 => encodings(MemoryType::NormalWbIsh),
-        1 => encodings(MemoryType::NormalNonCacheable),
-        2 => encodings(MemoryType::DeviceNGnRnE),
-        _ => [0; 8],
-    }
-}
-
-fn encodings(t: MemoryType) -> [u64; 8]
-    ensures { result ≡ encoding_numbers t }
-{
-    [
+    eight([
         1,
-        t.stage1_mair_byte() as u64,
+        t.stage1_mair_byte().into(),
         t.stage2_leaf_bits(),
         t.shareability_bits(),
-        0,
-        0,
-        0,
-        0,
-    ]
+    ])
 }
 
 pub fn constants() -> [u64; 8]
@@ -101,30 +75,20 @@ pub fn words() -> [u64; 8]
     ]
 }
 
-pub fn leaf(l: DecodedLeaf) -> [u64; 8]
-    ensures { result ≡ leaf_numbers l }
+pub fn leaf(d: Decoded) -> [u64; 8]
+    ensures { result ≡ leaf_numbers d }
 {
-    let DecodedLeaf::Leaf(d) = l else {
-        return [0; 8];
-    };
-    let perm = d.perm;
-    [1, d.pa, perm.code() as u64, d.xn as u64, 0, 0, 0, 0]
+    eight([1, d.pa, d.perm.code().into(), d.xn.into()])
 }
 
-pub fn table(t: DecodedTable) -> [u64; 8]
-    ensures { result ≡ table_numbers t }
+pub fn table(pa: u64) -> [u64; 8]
+    ensures { result ≡ table_numbers pa }
 {
-    let DecodedTable::At(pa) = t else {
-        return [0; 8];
-    };
-    [1, pa, 0, 0, 0, 0, 0, 0]
+    eight([1, pa])
 }
 
-pub fn device(b: DecodedBlock) -> [u64; 8]
-    ensures { result ≡ device_numbers b }
+pub fn device(d: DecodedDevice) -> [u64; 8]
+    ensures { result ≡ device_numbers d }
 {
-    let DecodedBlock::Device(d) = b else {
-        return [0; 8];
-    };
-    [1, d.pa, d.xn as u64, 0, 0, 0, 0, 0]
+    eight([1, d.pa, d.xn.into()])
 }

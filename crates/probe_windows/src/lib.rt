@@ -17,5 +17,6 @@ pub extern "C" fn probe_windows(
 )
     ensures { out.new ≡ granted_answer numbers.now base.now sup.now ipa }
 {
-    *out = window_reach::window_reach(base, sup, layout_numbers::layout_of(numbers), ipa).words();
+    let layout = layout_numbers::layout_of(numbers);
+    *out = refusal::words(window_reach::window_reach(base, sup, layout, ipa));
 }

@@ -1,8 +1,8 @@
+pub mod After
 pub mod All
 pub mod Carried
-pub mod First
 pub mod Loop
+pub mod Nine
 pub mod None
 pub mod Parts
-pub mod Told
-pub mod Words
+pub mod Sequence

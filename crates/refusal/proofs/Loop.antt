@@ -1,4 +1,5 @@
 -- A loop of verdicts over rows by position: a refusing verdict decides, an accepting one is passed over, and at the end there is none.
+use Rattle.std.specs.Prelude.{Ok, Err, Result}
 use Prim.Native.Nat.{ℕ, ◌+◌, ◌≤◌, ◌<◌}
 use mathlib.Core.List.{List, ◌++◌}
 use mathlib.Core.Path.{◌≡◌, sym, ◌∙◌}
@@ -7,9 +8,7 @@ use lib.ListN.{length, get_or, drop}
 use Rattle.refusal.specs.Outcome.{outcome_of}
 use Rattle.refusal.specs.Table.{Row, Outcome, accepted, first, each, pairs}
 use Rattle.refusal.specs.declared.Refusal.{Refusal}
-use Rattle.refusal.specs.declared.Verdict.TheVariants.{Accepted, Refused}
-use Rattle.refusal.specs.declared.Verdict.{Verdict}
-use Rattle.refusal.proofs.First.{next, stop}
+use Rattle.refusal.proofs.Sequence.{next, stop}
 use Rattle.refusal.proofs.Parts.{each_at, each_end, pairs_at, pairs_end}
 
 -- the rows from i on are those of i, then those from i + 1 on; from n on there are none
@@ -20,10 +19,10 @@ pub record Walk (n : ℕ) (here from : ℕ → List Row) : Type 0 where
 -- where the answer is the first row from i on
 module _ {n : ℕ} {here from : ℕ → List Row} (w : Walk n here from) (i : ℕ) {o : Outcome} (inv : o ≡ first (from i)) where
   pub refuses :
-      i < n → {v : Verdict} {r : Refusal} → v ≡ Refused r → outcome_of v ≡ first (here i) → outcome_of v ≡ o
+      i < n → {v : Result Unit Refusal} {r : Refusal} → v ≡ Err r → outcome_of v ≡ first (here i) → outcome_of v ≡ o
   refuses h {v} {r} told e = stop _ _ v r (w.step i h) told e ∙ sym inv
 
-  pub passes : i < n → {v : Verdict} → v ≡ Accepted → outcome_of v ≡ first (here i) → o ≡ first (from (i + 1))
+  pub passes : i < n → {v : Result Unit Refusal} → v ≡ Ok tt → outcome_of v ≡ first (here i) → o ≡ first (from (i + 1))
   passes h {v} told e = inv ∙ next _ _ v (w.step i h) told e
 
   pub ends : n ≤ i → accepted ≡ o

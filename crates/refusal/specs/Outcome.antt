@@ -1,12 +1,8 @@
 -- The number and the values of each case of `Refusal`, by document 01's table; from 27 on, by the requests.
+use Rattle.std.specs.Prelude.{Some, None, Option, Result, Ok, Err}
+use Rattle.decode.specs.declared.Decoded.{Decoded}
 use Rattle.std.specs.Prelude.{ℕ, Bool, List, [], ◌∷◌, ◌++◌}
-use Rattle.decode.specs.declared.DecodedLeaf.TheVariants.{Leaf, Nothing as NoLeaf}
-use Rattle.decode.specs.declared.DecodedLeaf.{DecodedLeaf}
-use Rattle.decode.specs.declared.DecodedTable.TheVariants.{At, Nothing as NoTable}
-use Rattle.decode.specs.declared.DecodedTable.{DecodedTable}
 use Rattle.fields.specs.Numbers.{eight, bit}
-use Rattle.p2m.specs.declared.Owner.TheVariants.{Domain, Nobody}
-use Rattle.p2m.specs.declared.Owner.{Owner}
 use Rattle.perm.specs.Perm.{perm_code, entry_code}
 use Rattle.refusal.specs.Table.{Row, row, Outcome, accepted, refused, given}
 use Rattle.refusal.specs.declared.Refusal.{Refusal}
@@ -16,28 +12,26 @@ use Rattle.refusal.specs.declared.Refusal.TheVariants.{OutputPastLimit, RegionsC
 use Rattle.refusal.specs.declared.Refusal.TheVariants.{UnsupportedSpan, OutOfRange, SpanConflict, BadTableEntry, BadImageBlock}
 use Rattle.refusal.specs.declared.Refusal.TheVariants.{BadLeaf, SpuriousDescriptor, BadDeviceBlock, UnauthorizedMapping}
 use Rattle.refusal.specs.declared.Refusal.TheVariants.{WriteEscalation, Inexact, StepPastLast, PageTooLong}
-use Rattle.refusal.specs.declared.Verdict.{Verdict}
-use Rattle.refusal.specs.declared.Verdict.TheVariants.{Accepted, Refused}
 
 -- what may be none, as a refusal carries it: 1 and its values, or zeros. A table is told by its address
-abbrev pub table_values : DecodedTable → List ℕ
-table_values (At pa) = 1 ∷ pa ∷ []
-table_values NoTable = 0 ∷ 0 ∷ []
+abbrev pub table_values : Option ℕ → List ℕ
+table_values (Some pa) = 1 ∷ pa ∷ []
+table_values None = 0 ∷ 0 ∷ []
 
 -- a leaf that is found: its address, access (1 Ro, 2 Rw) and execute bit, whatever else a decoder tells
-abbrev pub leaf_values : DecodedLeaf → List ℕ
-leaf_values (Leaf a) = 1 ∷ a.pa ∷ perm_code a.perm ∷ bit a.xn ∷ []
-leaf_values NoLeaf = 0 ∷ 0 ∷ 0 ∷ 0 ∷ []
+abbrev pub leaf_values : Option Decoded → List ℕ
+leaf_values (Some a) = 1 ∷ a.pa ∷ perm_code a.perm ∷ bit a.xn ∷ []
+leaf_values None = 0 ∷ 0 ∷ 0 ∷ 0 ∷ []
 
 -- one that is wanted: its address and access
-abbrev pub wanted_values : DecodedLeaf → List ℕ
-wanted_values (Leaf a) = 1 ∷ a.pa ∷ perm_code a.perm ∷ []
-wanted_values NoLeaf = 0 ∷ 0 ∷ 0 ∷ []
+abbrev pub wanted_values : Option Decoded → List ℕ
+wanted_values (Some a) = 1 ∷ a.pa ∷ perm_code a.perm ∷ []
+wanted_values None = 0 ∷ 0 ∷ 0 ∷ []
 
 -- an owner: the domain's number
-abbrev pub owner_values : Owner → List ℕ
-owner_values (Domain owner) = 1 ∷ owner ∷ []
-owner_values Nobody = 0 ∷ 0 ∷ []
+abbrev pub owner_values : Option ℕ → List ℕ
+owner_values (Some owner) = 1 ∷ owner ∷ []
+owner_values None = 0 ∷ 0 ∷ []
 
 abbrev pub row_of : Refusal → Row
 row_of ArenaLength = row 1 []
@@ -72,9 +66,9 @@ row_of PageTooLong = row 27 []
 abbrev pub refuse : Bool → Refusal → List Row
 refuse t r = given t (row_of r ∷ [])
 
-abbrev pub outcome_of : Verdict → Outcome
-outcome_of Accepted = accepted
-outcome_of (Refused r) = refused (row_of r)
+abbrev pub outcome_of : Result Unit Refusal → Outcome
+outcome_of (Ok tt) = accepted
+outcome_of (Err r) = refused (row_of r)
 
 -- an outcome as nine numbers: the row's, 0 where accepted, then eight for the values, zeros after them
 abbrev pub row_words : Row → List ℕ

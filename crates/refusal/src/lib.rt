@@ -1,17 +1,20 @@
 // The answer of a call that document 01's table can refuse.
 #![tactic(auto)]
 
-ghost use Rattle.std.specs.Prelude.{◌≡◌};
-ghost use Rattle.refusal.specs.Outcome.{leaf_values, wanted_values, row_of, outcome_of, row_words, outcome_words};
+ghost use Rattle.std.specs.Prelude.{ℕ, List, [], ◌∷◌, ◌≡◌};
+ghost use Rattle.fields.specs.Numbers.{eight};
+ghost use Rattle.refusal.specs.Told.{values_if, told_of, told_words};
+ghost use Rattle.refusal.specs.Outcome.{leaf_values, wanted_values, row_of, row_words};
 ghost use Rattle.refusal.specs.declared.Refusal.TheVariants.{BadTableEntry, BadImageBlock, BadLeaf, UnauthorizedMapping, Inexact};
 
-use decode::{DecodedLeaf, DecodedTable};
-use p2m::Owner;
-use perm::{Entry, Perm};
+pub mod first;
+
+use decode::Decoded;
+use perm::Perm;
 
 // Rows 1 to 27, by the Rust's names where it has them, with the values that a refusal carries. Names are document 01's codes: maps,
 // windows and tables, and in `WindowUnaligned` row 6's checks.
-#[derive(Clone, Copy)]
+#[derive(Clone, Copy, PartialEq, Eq)]
 pub enum Refusal {
     ArenaLength,
     MapLength,
@@ -70,17 +73,17 @@ pub enum Refusal {
     BadTableEntry {
         table: u64,
         index: u64,
-        found: DecodedTable,
+        found: Option<u64>,
         expected: u64,
     },
     BadImageBlock {
-        found: DecodedLeaf,
+        found: Option<Decoded>,
         expected: u64,
     },
     BadLeaf {
         mfn: u64,
-        found: DecodedLeaf,
-        expected: DecodedLeaf,
+        found: Option<Decoded>,
+        expected: Option<Decoded>,
     },
     SpuriousDescriptor {
         table: u64,
@@ -94,7 +97,7 @@ pub enum Refusal {
     UnauthorizedMapping {
         dom: u64,
         mfn: u64,
-        owner: Owner,
+        owner: Option<u16>,
         perm: Perm,
     },
     WriteEscalation {
@@ -105,28 +108,59 @@ pub enum Refusal {
     Inexact {
         dom: u64,
         mfn: u64,
-        mapped: Entry,
-        expected: Entry,
+        mapped: Option<Perm>,
+        expected: Option<Perm>,
     },
     StepPastLast,
     PageTooLong,
 }
 
-#[derive(Clone, Copy)]
-pub enum Verdict {
-    Accepted,
-    Refused(Refusal),
+// What a call tells where no row refuses it.
+pub trait Told {
+    ghost values: { Self → List ℕ };
+
+    // 0, and the values.
+    fn words(self) -> [u64; 9]
+        ensures { result ≡ 0 ∷ eight (values self) };
 }
 
-impl Verdict {
-    // The number, 0 where accepted, and the carried values: for callers that have no enums.
-    pub fn words(self) -> [u64; 9]
-        ensures { result ≡ outcome_words (outcome_of self) }
-    {
+// It is accepted, and nothing else is told.
+impl Told for () {
+    ghost values = { λ told. [] };
+
+    fn words(self) -> [u64; 9] {
+        [0; 9]
+    }
+}
+
+// A number is told as it is.
+impl Told for u64 {
+    ghost values = { λ told. told ∷ [] };
+
+    fn words(self) -> [u64; 9] {
+        [0, self, 0, 0, 0, 0, 0, 0, 0]
+    }
+}
+
+// Nothing is told by zeros.
+impl<T: Told> Told for Option<T> {
+    ghost values = { values_if T.values };
+
+    fn words(self) -> [u64; 9] {
         match self {
-            Verdict::Accepted => [0; 9],
-            Verdict::Refused(refusal) => refusal.words(),
+            Some(told) => told.words(),
+            None => [0; 9],
         }
+    }
+}
+
+// The number, 0 where no row refuses, and the values that are told or carried: for callers that have no enums.
+pub fn words<T: Told>(answer: Result<T, Refusal>) -> [u64; 9]
+    ensures { result ≡ told_words T.values (told_of answer) }
+{
+    match answer {
+        Ok(told) => told.words(),
+        Err(refusal) => refusal.words(),
     }
 }
 
@@ -192,23 +226,23 @@ impl Refusal {
     }
 }
 
-fn bad_table_entry(table: u64, index: u64, found: DecodedTable, expected: u64) -> [u64; 9]
+fn bad_table_entry(table: u64, index: u64, found: Option<u64>, expected: u64) -> [u64; 9]
     ensures { result ≡ row_words (row_of (BadTableEntry table index found expected)) }
 {
     match found {
-        DecodedTable::At(pa) => [18, table, index, 1, pa, expected, 0, 0, 0],
-        DecodedTable::Nothing => [18, table, index, 0, 0, expected, 0, 0, 0],
+        Some(pa) => [18, table, index, 1, pa, expected, 0, 0, 0],
+        None => [18, table, index, 0, 0, expected, 0, 0, 0],
     }
 }
 
-fn bad_image_block(found: DecodedLeaf, expected: u64) -> [u64; 9]
+fn bad_image_block(found: Option<Decoded>, expected: u64) -> [u64; 9]
     ensures { result ≡ row_words (row_of (BadImageBlock found expected)) }
 {
     let f = leaf_values(found);
     [19, f[0], f[1], f[2], f[3], expected, 0, 0, 0]
 }
 
-fn bad_leaf(mfn: u64, found: DecodedLeaf, expected: DecodedLeaf) -> [u64; 9]
+fn bad_leaf(mfn: u64, found: Option<Decoded>, expected: Option<Decoded>) -> [u64; 9]
     ensures { result ≡ row_words (row_of (BadLeaf mfn found expected)) }
 {
     let f = leaf_values(found);
@@ -216,25 +250,25 @@ fn bad_leaf(mfn: u64, found: DecodedLeaf, expected: DecodedLeaf) -> [u64; 9]
     [20, mfn, f[0], f[1], f[2], f[3], e[0], e[1], e[2]]
 }
 
-fn unauthorized_mapping(dom: u64, mfn: u64, owner: Owner, perm: Perm) -> [u64; 9]
+fn unauthorized_mapping(dom: u64, mfn: u64, owner: Option<u16>, perm: Perm) -> [u64; 9]
     ensures { result ≡ row_words (row_of (UnauthorizedMapping dom mfn owner perm)) }
 {
     let entry = perm.code() as u64;
     match owner {
-        Owner::Domain(number) => [23, dom, mfn, 1, number as u64, entry, 0, 0, 0],
-        Owner::Nobody => [23, dom, mfn, 0, 0, entry, 0, 0, 0],
+        Some(number) => [23, dom, mfn, 1, number as u64, entry, 0, 0, 0],
+        None => [23, dom, mfn, 0, 0, entry, 0, 0, 0],
     }
 }
 
-fn inexact(dom: u64, mfn: u64, mapped: Entry, expected: Entry) -> [u64; 9]
+fn inexact(dom: u64, mfn: u64, mapped: Option<Perm>, expected: Option<Perm>) -> [u64; 9]
     ensures { result ≡ row_words (row_of (Inexact dom mfn mapped expected)) }
 {
     [
         25,
         dom,
         mfn,
-        mapped.code() as u64,
-        expected.code() as u64,
+        perm::entry_code(mapped) as u64,
+        perm::entry_code(expected) as u64,
         0,
         0,
         0,
@@ -243,27 +277,27 @@ fn inexact(dom: u64, mfn: u64, mapped: Entry, expected: Entry) -> [u64; 9]
 }
 
 // A leaf that is found, as a refusal carries it: 1 and its values, or zeros.
-fn leaf_values(found: DecodedLeaf) -> [u64; 4]
+fn leaf_values(found: Option<Decoded>) -> [u64; 4]
     ensures { result ≡ leaf_values found }
 {
     match found {
-        DecodedLeaf::Leaf(leaf) => {
+        Some(leaf) => {
             let access = leaf.perm;
             [1, leaf.pa, access.code() as u64, leaf.xn as u64]
         }
-        DecodedLeaf::Nothing => [0; 4],
+        None => [0; 4],
     }
 }
 
 // One that is wanted.
-fn wanted_values(want: DecodedLeaf) -> [u64; 3]
+fn wanted_values(want: Option<Decoded>) -> [u64; 3]
     ensures { result ≡ wanted_values want }
 {
     match want {
-        DecodedLeaf::Leaf(leaf) => {
+        Some(leaf) => {
             let access = leaf.perm;
             [1, leaf.pa, access.code() as u64]
         }
-        DecodedLeaf::Nothing => [0; 3],
+        None => [0; 3],
     }
 }

@@ -1,12 +1,10 @@
 -- A stage-2 translation regime, by DDI 0487: what makes it valid, and what it determines.
-use Rattle.std.specs.Prelude.{ℕ, ◌-◌, ◌*◌, ◌^◌, max, Bool, ◌&&◌, leb, ltb}
+use Rattle.std.specs.Prelude.{Option, Some, None, ℕ, ◌-◌, ◌*◌, ◌^◌, max, Bool, ◌&&◌, leb, ltb}
 use Rattle.fields.specs.Named.{pick}
 use Rattle.granule.specs.Granule.{page_bits, level_bits}
 use Rattle.granule.specs.StartLevel.{span}
 use Rattle.granule.specs.declared.Granule.TheVariants.{K4}
 use Rattle.granule.specs.declared.StartLevel.TheVariants.{L1}
-use Rattle.regime.specs.declared.Determined.TheVariants.{Value, Undefined}
-use Rattle.regime.specs.declared.Determined.{Determined}
 use Rattle.regime.specs.declared.Stage2Regime.{Stage2Regime}
 use Rattle.sizes.specs.declared.PaSize.TheVariants.{B40}
 
@@ -28,16 +26,16 @@ valid_regime r =
     input_fits r && leb r.walk_shareability 0b11 && leb r.walk_inner 0b11 && leb r.walk_outer 0b11
 
 -- T0SZ: the input size as a shrink from 64 bits
-abbrev pub t0sz_of : Stage2Regime → Determined
-t0sz_of r = pick (leb r.ipa_bits 64) (Value (64 - r.ipa_bits)) Undefined
+abbrev pub t0sz_of : Stage2Regime → Option ℕ
+t0sz_of r = pick (leb r.ipa_bits 64) (Some (64 - r.ipa_bits)) None
 
 -- the start level's table has 8 bytes for each value of the bits that it resolves, and is aligned to its size, at least to 64 bytes;
--- Undefined where the input has fewer bits than the walk resolves below, or where the size is no 64-bit number
-abbrev pub table_align : Stage2Regime → Determined
+-- None where the input has fewer bits than the walk resolves below, or where the size is no 64-bit number
+abbrev pub table_align : Stage2Regime → Option ℕ
 table_align r =
     pick (leb (below r) r.ipa_bits && ltb (r.ipa_bits - below r) 61)
-    (Value (max 64 (8 * 2 ^ (r.ipa_bits - below r))))
-    Undefined
+    (Some (max 64 (8 * 2 ^ (r.ipa_bits - below r))))
+    None
 
 -- the regime that is run
 abbrev pub baleen_stage2 : Stage2Regime

@@ -7,7 +7,7 @@ ghost use Rattle.regime.specs.Regime.{below, input_fits, valid_regime, t0sz_of, 
 use granule::{Granule, StartLevel};
 use sizes::{PaSize, VmidBits};
 
-#[derive(Clone, Copy)]
+#[derive(Clone, Copy, PartialEq, Eq)]
 pub struct Stage2Regime {
     pub granule: Granule,
     // The input address size in bits.
@@ -18,13 +18,6 @@ pub struct Stage2Regime {
     pub walk_shareability: u64,
     pub walk_inner: u64,
     pub walk_outer: u64,
-}
-
-// A number that a regime determines. Undefined is where the Rust's sum or shift has no answer.
-#[derive(Clone, Copy)]
-pub enum Determined {
-    Value(u64),
-    Undefined,
 }
 
 // The regime that is run: 4 KB granule, 39-bit input, start level 1, 40-bit output.
@@ -42,77 +35,51 @@ pub const BALEEN_VMID_BITS: VmidBits = VmidBits::B8;
 
 impl Stage2Regime {
     // Whether a walker can be configured so.
+    #[tactic(auto, unfolding(crate::specs::Regime::valid_regime))]
     pub fn valid(self) -> bool
         ensures { result ≡ valid_regime self }
     {
-        if !self.input_fits() {
-            return false;
-        }
-        if 0b11 < self.walk_shareability {
-            return false;
-        }
-        if 0b11 < self.walk_inner {
-            return false;
-        }
-        self.walk_outer <= 0b11
+        self.input_fits()
+            && self.walk_shareability <= 0b11
+            && self.walk_inner <= 0b11
+            && self.walk_outer <= 0b11
     }
 
     // One table is one page, so the start level resolves the input and the next does not.
+    #[tactic(auto, unfolding(crate::specs::Regime::input_fits))]
     fn input_fits(self) -> bool
         ensures { result ≡ input_fits self }
     {
-        let granule = self.granule;
-        let start_level = self.start_level;
-        let ipa_bits = self.ipa_bits;
-        if 48 < ipa_bits {
-            return false;
-        }
-        if ipa_bits <= granule.page_bits() {
-            return false;
-        }
-        if start_level.span(granule) < ipa_bits {
-            return false;
-        }
-        self.below() < ipa_bits
+        self.ipa_bits <= 48
+            && self.granule.page_bits() < self.ipa_bits
+            && self.ipa_bits <= self.start_level.span(self.granule)
+            && self.below() < self.ipa_bits
     }
 
     // Bits of the address that the walk resolves below its start level.
+    #[tactic(auto, using(granule::proofs::Bounds::span_range), unfolding(crate::specs::Regime::below))]
     fn below(self) -> u32
         ensures { result ≡ below self }
     {
-        let granule = self.granule;
-        let start_level = self.start_level;
-        start_level.span(granule) - granule.level_bits()
+        self.start_level.span(self.granule) - self.granule.level_bits()
     }
 
     // The input size, as a shrink from 64 bits.
-    pub fn t0sz(self) -> Determined
+    pub fn t0sz(self) -> Option<u64>
         ensures { result ≡ t0sz_of self }
     {
-        let ipa_bits = self.ipa_bits;
-        if 64 < ipa_bits {
-            return Determined::Undefined;
-        }
-        Determined::Value(64 - ipa_bits as u64)
+        64u64.checked_sub(u64::from(self.ipa_bits))
     }
 
     // The alignment of the start level's table: an address that lacks it is truncated, not refused.
-    pub fn table_align(self) -> Determined
+    #[tactic(auto, using(crate::proofs::Bounds::size_fits))]
+    pub fn table_align(self) -> Option<u64>
         ensures { result ≡ table_align self }
     {
-        let ipa_bits = self.ipa_bits;
-        let below = self.below();
-        if ipa_bits < below {
-            return Determined::Undefined;
-        }
-        let index_bits = ipa_bits - below;
+        let index_bits = self.ipa_bits.checked_sub(self.below())?;
         if 61 <= index_bits {
-            return Determined::Undefined;
+            return None;
         }
-        let size = 8 << index_bits;
-        if size < 64 {
-            return Determined::Value(64);
-        }
-        Determined::Value(size)
+        Some((8u64 << index_bits).max(64))
     }
 }

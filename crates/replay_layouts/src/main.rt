@@ -2,31 +2,19 @@
 // printed in the same form, and must be the Rust's, which are the expected output.
 #![tactic(auto)]
 
-use layout::Layout;
 use std::io;
 use std::io::{Read, Write};
 
-// More lines than any recording has: a proved loop has to end.
-const LINES: u32 = 1_000_000;
-
 fn main(rt: HostRuntime) -> io::Result<()> {
-    let mut input = rt.stdin();
-    let mut output = rt.stdout();
-    for _ in 0..LINES {
-        if !replay_line(&mut input, &mut output)? {
-            break;
-        }
-    }
-    Ok(())
+    replay_lines::each_line(&mut rt.stdin(), &mut rt.stdout(), replay_line)
 }
 
 // Whether there was a whole line.
 fn replay_line<R: Read, W: Write>(input: &mut R, output: &mut W) -> io::Result<bool> {
-    let mut x = [0; Layout::NUMBERS];
-    if !replay_lines::read_numbers(input, &mut x)? {
+    let Some(x) = replay_lines::read_numbers(input)? else {
         return Ok(false);
-    }
-    let answer = validate::validate(layout_numbers::layout_of(&x)).words();
+    };
+    let answer = refusal::words(validate::validate(layout_numbers::layout_of(&x)));
     replay_lines::print_line(output, &answer)?;
     Ok(true)
 }

@@ -4,126 +4,126 @@
 #![tactic(auto)]
 
 use p2m::Span;
-use refusal::Verdict;
+use refusal::Refusal;
 use std::io;
 use std::io::{Read, Write};
 
-// More lines than any recording has: a proved loop has to end.
-const LINES: u32 = 1_000_000;
-
-// The numbers of a call.
-const NUMBERS: usize = 16;
-
 fn main(rt: HostRuntime) -> io::Result<()> {
-    let mut input = rt.stdin();
-    let mut output = rt.stdout();
-    for _ in 0..LINES {
-        if !replay_line(&mut input, &mut output)? {
-            break;
-        }
-    }
-    Ok(())
+    replay_lines::each_line(&mut rt.stdin(), &mut rt.stdout(), replay_line)
 }
 
 // Whether there was a whole line.
 fn replay_line<R: Read, W: Write>(input: &mut R, output: &mut W) -> io::Result<bool> {
-    let mut x = [0; NUMBERS];
-    if !replay_lines::read_numbers(input, &mut x)? {
+    let Some(numbers) = replay_lines::read_numbers(input)? else {
         return Ok(false);
-    }
-    match x[0] {
-        1 => fill(output, &x)?,
-        2 => print_answer(output, authorized(&x))?,
-        _ => print_answer(output, exact(&x))?,
-    }
+    };
+    Call::of(numbers).replay(output)?;
     Ok(true)
 }
 
-fn fill<W: Write>(output: &mut W, x: &[u64; NUMBERS]) -> io::Result<()> {
-    let mut base = replay_lines::bytes(x[3]);
-    let mut sup = replay_lines::bytes(x[4]);
-    let edges = edges(x);
-    let frames = frames(x);
-    let dom = (x[1] % 65536) as u16;
-    let verdict = leafmap::leaf_map_from_edges(&edges, &frames, dom, &mut base, &mut sup);
-    print_answer(output, verdict)?;
-    print_map(output, base)?;
-    print_map(output, sup)
+#[derive(Drop)]
+struct Call {
+    which: u64,
+    dom: u16,
+    span: Span,
+    base: [u8; 8],
+    sup: [u8; 8],
+    edges: [[u32; 6]; 4],
+    frames: [[u32; 2]; 5],
+    grants: [[u32; 4]; 2],
 }
 
-fn authorized(x: &[u64; NUMBERS]) -> Verdict {
-    let leaves = replay_lines::bytes(x[3]);
-    let frames = frames(x);
-    let grants = [grant(x[14]), grant(x[15])];
-    let dom = (x[1] % 65536) as u16;
-    authority::check_authorized_with(dom, &leaves, &frames, &grants)
-}
+impl Call {
+    fn of(numbers: [u64; 16]) -> Self {
+        let [
+            which,
+            dom,
+            span,
+            base,
+            sup,
+            e0,
+            e1,
+            e2,
+            e3,
+            f0,
+            f1,
+            f2,
+            f3,
+            f4,
+            g0,
+            g1,
+        ] = numbers;
+        Self {
+            which,
+            dom: (dom % 0x1_0000) as u16,
+            span: Span::from((span % 0x1_0000_0000) as u32),
+            base: replay_lines::bytes(base),
+            sup: replay_lines::bytes(sup),
+            edges: [e0, e1, e2, e3].map(edge),
+            frames: [f0, f1, f2, f3, f4].map(frame),
+            grants: [g0, g1].map(grant),
+        }
+    }
 
-fn exact(x: &[u64; NUMBERS]) -> Verdict {
-    let leaves = replay_lines::bytes(x[3]);
-    let edges = edges(x);
-    let frames = frames(x);
-    let dom = (x[1] % 65536) as u16;
-    let span = Span::of((x[2] % 0x1_0000_0000) as u32);
-    exact::check_exact(dom, &leaves, span, &edges, &frames)
-}
+    fn replay<W: Write>(&self, output: &mut W) -> io::Result<()> {
+        match self.which {
+            1 => self.fill(output),
+            2 => print_answer(
+                output,
+                authority::check_authorized_with(self.dom, &self.base, &self.frames, &self.grants),
+            ),
+            _ => print_answer(
+                output,
+                exact::check_exact(self.dom, &self.base, self.span, &self.edges, &self.frames),
+            ),
+        }
+    }
 
-fn edges(x: &[u64; NUMBERS]) -> [[u32; 6]; 4] {
-    [edge(x[5]), edge(x[6]), edge(x[7]), edge(x[8])]
+    fn fill<W: Write>(&self, output: &mut W) -> io::Result<()> {
+        let mut base = self.base;
+        let mut sup = self.sup;
+        let answer = leafmap::leaf_map_from_edges(
+            &self.edges,
+            &self.frames,
+            self.dom,
+            &mut base,
+            &mut sup,
+        );
+        print_answer(output, answer)?;
+        replay_lines::print_line(output, &base.map(u64::from))?;
+        replay_lines::print_line(output, &sup.map(u64::from))
+    }
 }
 
 // Eight bits for each of parent and slot, sixteen for the child, eight for each of writable, leaf and execute.
 fn edge(n: u64) -> [u32; 6] {
+    let [parent, slot, low, high, writable, leaf, execute, _] = replay_lines::bytes(n);
+    let child = u16::from_le_bytes([low, high]);
     [
-        (n % 0x100) as u32,
-        (n / 0x100 % 0x100) as u32,
-        (n / 0x1_0000 % 0x1_0000) as u32,
-        (n / 0x1_0000_0000 % 0x100) as u32,
-        (n / 0x100_0000_0000 % 0x100) as u32,
-        (n / 0x1_0000_0000_0000 % 0x100) as u32,
-    ]
-}
-
-fn frames(x: &[u64; NUMBERS]) -> [[u32; 2]; 5] {
-    [
-        frame(x[9]),
-        frame(x[10]),
-        frame(x[11]),
-        frame(x[12]),
-        frame(x[13]),
+        parent as u32,
+        slot as u32,
+        child as u32,
+        writable as u32,
+        leaf as u32,
+        execute as u32,
     ]
 }
 
 // Owner number and kind, 32 bits each.
 fn frame(n: u64) -> [u32; 2] {
-    [(n % 0x1_0000_0000) as u32, (n / 0x1_0000_0000) as u32]
+    [(n % 0x1_0000_0000) as u32, (n >> 32) as u32]
 }
 
 // Twenty bits for each of grantor and grantee, sixteen for the frame, eight for writable.
 fn grant(n: u64) -> [u32; 4] {
     [
         (n % 0x10_0000) as u32,
-        (n / 0x10_0000 % 0x10_0000) as u32,
-        (n / 0x100_0000_0000 % 0x1_0000) as u32,
-        (n / 0x100_0000_0000_0000) as u32,
+        ((n >> 20) % 0x10_0000) as u32,
+        ((n >> 40) % 0x1_0000) as u32,
+        (n >> 56) as u32,
     ]
 }
 
-fn print_answer<W: Write>(output: &mut W, verdict: Verdict) -> io::Result<()> {
-    let answer = verdict.words();
-    replay_lines::print_line(output, &answer)
-}
-
-fn print_map<W: Write>(output: &mut W, map: [u8; 8]) -> io::Result<()> {
-    let entries = [
-        map[0] as u64,
-        map[1] as u64,
-        map[2] as u64,
-        map[3] as u64,
-        map[4] as u64,
-        map[5] as u64,
-        map[6] as u64,
-        map[7] as u64,
-    ];
-    replay_lines::print_line(output, &entries)
+fn print_answer<W: Write>(output: &mut W, answer: Result<(), Refusal>) -> io::Result<()> {
+    replay_lines::print_line(output, &refusal::words(answer))
 }

@@ -5,23 +5,15 @@
 #![tactic(auto)]
 
 use layout::Layout;
-use refusal::Verdict;
+use refusal::{Refusal, Told};
 use std::io;
 use std::io::{Read, Write};
 
-// More lines than any recording has: a proved loop has to end.
-const LINES: u32 = 1_000_000;
-
 fn main(rt: HostRuntime) -> io::Result<()> {
-    let mut input = rt.stdin();
-    let mut output = rt.stdout();
     let mut arena = [0; Layout::ARENA_LEN];
-    for _ in 0..LINES {
-        if !replay_line(&mut input, &mut output, &mut arena)? {
-            break;
-        }
-    }
-    Ok(())
+    replay_lines::each_line(&mut rt.stdin(), &mut rt.stdout(), |input, output| {
+        replay_line(input, output, &mut arena)
+    })
 }
 
 // Whether there was a whole line, and the arena has the words that it lends or stores.
@@ -30,62 +22,45 @@ fn replay_line<R: Read, W: Write>(
     output: &mut W,
     arena: &mut [u64],
 ) -> io::Result<bool> {
-    let mut x = [0; 6];
-    if !replay_lines::read_numbers(input, &mut x)? {
+    let Some(x) = replay_lines::read_numbers(input)? else {
         return Ok(false);
-    }
+    };
     if x[0] == 0 {
-        return Ok(store(arena, x[1] as usize, x[2] as usize, x[3]));
+        return Ok(store(arena, x[1] as usize, x[2] as usize, x[3]).is_some());
     }
-    let mut numbers = [0; Layout::NUMBERS];
-    if !replay_lines::read_numbers(input, &mut numbers)? {
+    let Some(numbers) = replay_lines::read_numbers(input)? else {
         return Ok(false);
-    }
-    call_over(output, arena, &x, layout_numbers::layout_of(&numbers))
-}
-
-// A word at so many places from this one on. Whether all are there.
-fn store(arena: &mut [u64], from: usize, count: usize, word: u64) -> bool {
-    if arena.len() < from {
-        return false;
-    }
-    if arena.len() - from < count {
-        return false;
-    }
-    for i in from..from + count {
-        arena[i] = word;
-    }
-    true
-}
-
-// The call over as many words as are lent. Whether all are there.
-fn call_over<W: Write>(
-    output: &mut W,
-    arena: &mut [u64],
-    x: &[u64; 6],
-    l: Layout,
-) -> io::Result<bool> {
-    let lent = x[3] as usize;
-    if arena.len() < lent {
+    };
+    let Some(lent) = arena.get_mut(..x[3] as usize) else {
         return Ok(false);
-    }
-    call(output, &mut arena[..lent], x, l)?;
+    };
+    call(output, lent, &x, layout_numbers::layout_of(&numbers))?;
     Ok(true)
 }
 
+// A word at so many places from this one on, if all are there.
+fn store(arena: &mut [u64], from: usize, count: usize, word: u64) -> Option<()> {
+    arena.get_mut(from..)?.get_mut(..count)?.fill(word);
+    Some(())
+}
+
 fn call<W: Write>(output: &mut W, arena: &mut [u64], x: &[u64; 6], l: Layout) -> io::Result<()> {
-    let base = replay_lines::bytes(x[1]);
-    let sup = replay_lines::bytes(x[2]);
-    match x[0] {
+    let [which, base, sup, _, a, b] = *x;
+    let base = replay_lines::bytes(base);
+    let sup = replay_lines::bytes(sup);
+    match which {
         1 => {
             print_answer(output, encode::encode(arena, &base, &sup, l))?;
             print_digest(output, arena)
         }
         2 => {
-            print_answer(output, steps_between(arena, &base, &sup, l, x[4], x[5]))?;
+            print_answer(output, steps_between(arena, &base, &sup, l, a, b))?;
             print_digest(output, arena)
         }
-        3 => walk(output, arena, x[4], l),
+        3 => print_answer(
+            output,
+            walk::walk(arena, &l.tables().map(|table| table.pa), a),
+        ),
         _ => print_answer(output, verify::verify_encoding(arena, &base, &sup, l)),
     }
 }
@@ -98,40 +73,21 @@ fn steps_between(
     l: Layout,
     from: u64,
     to: u64,
-) -> Verdict {
+) -> Result<(), Refusal> {
     for n in from..=to {
-        let verdict = update::step(arena, base, sup, l, n);
-        let Verdict::Accepted = verdict else {
-            return verdict;
-        };
+        update::step(arena, base, sup, l, n)?;
     }
-    Verdict::Accepted
+    Ok(())
 }
 
-fn walk<W: Write>(output: &mut W, arena: &[u64], ipa: u64, l: Layout) -> io::Result<()> {
-    let tables = [
-        l.l1_pa,
-        l.l2_code_pa,
-        l.l2_data_pa,
-        l.l3_data_pa,
-        l.l2_sup_pa,
-        l.l2_dev_pa,
-    ];
-    let answer = walk::walk(arena, &tables, ipa).words();
-    replay_lines::print_line(output, &answer)
-}
-
-fn print_answer<W: Write>(output: &mut W, verdict: Verdict) -> io::Result<()> {
-    let answer = verdict.words();
-    replay_lines::print_line(output, &answer)
+fn print_answer<W: Write, T: Told>(output: &mut W, answer: Result<T, Refusal>) -> io::Result<()> {
+    replay_lines::print_line(output, &refusal::words(answer))
 }
 
 fn print_digest<W: Write>(output: &mut W, arena: &[u64]) -> io::Result<()> {
-    let mut digest = 0;
-    for i in 0..arena.len() {
-        let word = arena[i];
-        digest = joined(joined(digest, word % 0x1_0000_0000), word / 0x1_0000_0000);
-    }
+    let digest = arena.iter().fold(0, |digest, word| {
+        joined(joined(digest, word % 0x1_0000_0000), word >> 32)
+    });
     replay_lines::print_line(output, &[digest])
 }
 

@@ -1,11 +1,8 @@
 -- The bytes of a page, line by line.
-use Prim.Native.Nat.{ℕ}
 use mathlib.Core.Bool.{Bool, true, false}
 use mathlib.Core.List.{List, [], ◌∷◌, ◌++◌, append_assoc, flat_map}
 use mathlib.Core.Path.{◌≡◌, refl}
 use lib.ListN.{length}
-use Rattle.fields.specs.Ascii.{ascii}
-use Rattle.fields.specs.Named.{pick}
 use Rattle.perm.specs.Perm.{perm_writes}
 use Rattle.runs.specs.Page.{line_length, run_line, last_line, page_of}
 use Rattle.runs.specs.declared.Run.{Run}

@@ -1,5 +1,5 @@
 -- The page of some runs, by request M-100.
-use Rattle.std.specs.Prelude.{ℕ, ◌*◌, Bool, replicate}
+use Rattle.std.specs.Prelude.{ℕ, Bool, replicate}
 use mathlib.Core.List.{List, [], ◌∷◌, ◌++◌, flat_map}
 use Rattle.fields.specs.Ascii.{ascii, space, line_feed}
 use Rattle.fields.specs.Named.{pick}

@@ -1,11 +1,10 @@
 -- The longest runs of addresses with continuous output and equal access, in address order, by request M-100.
+use Rattle.std.specs.Prelude.{Option, Some, None}
 use Rattle.std.specs.Prelude.{ℕ, zero, suc, ◌+◌, ◌-◌, Bool, ◌&&◌, List, [], ◌∷◌, eqb}
 use Rattle.fields.specs.Named.{pick}
 use Rattle.fields.specs.Numbers.{bit}
 use Rattle.perm.specs.Perm.{perm_code}
 use Rattle.reach.specs.declared.Reach.{Reach}
-use Rattle.reach.specs.declared.Reached.{Reached}
-use Rattle.reach.specs.declared.Reached.TheVariants.{At, Nothing}
 use Rattle.runs.specs.declared.Run.{Run}
 
 -- from the first to the last address; output is that of the first
@@ -30,11 +29,11 @@ before r [] = r ∷ []
 before r (s ∷ rs) = pick (goes_on r s) (joined r s ∷ rs) (r ∷ s ∷ rs)
 
 -- an address, by what it reaches, before the runs of the addresses that follow
-abbrev pub with_address : ℕ → Reached → List Run → List Run
-with_address x (At r) rs = before (run x x r) rs
-with_address x Nothing rs = rs
+abbrev pub with_address : ℕ → Option Reach → List Run → List Run
+with_address x (Some r) rs = before (run x x r) rs
+with_address x None rs = rs
 
 -- the runs of n addresses, from x on
-unfoldable pub runs_from : (ℕ → Reached) → ℕ → ℕ → List Run
+unfoldable pub runs_from : (ℕ → Option Reach) → ℕ → ℕ → List Run
 runs_from f x zero = []
 runs_from f x (suc n) = with_address x (f x) (runs_from f (suc x) n)

@@ -7,7 +7,7 @@ ghost use Rattle.runs.specs.Page.{access_text, execute_text, run_line, last_line
 use perm::Perm;
 
 // Addresses with continuous output and equal access: from the first to the last, the output of the first, and access as a walk tells it.
-#[derive(Clone, Copy)]
+#[derive(Clone, Copy, PartialEq, Eq)]
 pub struct Run {
     pub first: u64,
     pub last: u64,
@@ -20,16 +20,15 @@ impl Run {
     // The bytes of a line.
     pub const LINE: usize = 40;
 
-    pub fn line(self) -> [u8; 40]
+    pub fn line(self) -> [u8; Self::LINE]
         ensures { result ≡ run_line self }
     {
-        let mut line = [b' '; 40];
-        text::spell(self.first, &mut line[0..10]);
+        let mut line = [b' '; Self::LINE];
+        text::spell(self.first, &mut line[..10]);
         text::spell(self.last, &mut line[11..21]);
         text::spell(self.pa, &mut line[22..34]);
-        let perm = self.perm;
         line[35] = b'R';
-        line[36] = write_mark(perm);
+        line[36] = write_mark(self.perm);
         line[38] = execute_mark(self.xn);
         line[39] = b'\n';
         line
@@ -39,26 +38,21 @@ impl Run {
 fn write_mark(perm: Perm) -> u8
     ensures { (0x52 ∷ result ∷ []) ≡ access_text perm }
 {
-    if perm.writable() {
-        return b'W';
-    }
-    b'O'
+    if perm.writable() { b'W' } else { b'O' }
 }
 
 fn execute_mark(never: bool) -> u8
     ensures { (result ∷ []) ≡ execute_text never }
 {
-    if never {
-        return b'-';
-    }
-    b'X'
+    if never { b'-' } else { b'X' }
 }
 
 // The line after all runs.
-pub fn last_line() -> [u8; 40]
+#[tactic(auto, unfolding(crate::specs::Page::last_line))]
+pub fn last_line() -> [u8; Run::LINE]
     ensures { result ≡ last_line }
 {
-    let mut line = [b'='; 40];
+    let mut line = [b'='; Run::LINE];
     line[39] = b'\n';
     line
 }

@@ -1,18 +1,17 @@
 -- Runs one after the other, of which none goes on in the next: a list of them is fixed by what it says.
+use Rattle.std.specs.Prelude.{Option, Some, None}
 use Prim.Native.Nat.{ℕ, zero, suc, ◌+◌, ◌-◌, ◌≤◌, ◌<◌}
-use mathlib.Core.Bool.{Bool, true, false, ◌&&◌, false≢true}
+use mathlib.Core.Bool.{Bool, true, false, false≢true}
 use mathlib.Core.List.{List, [], ◌∷◌}
 use mathlib.Core.Path.{◌≡◌, refl, sym, ap, ap₂, subst, ◌∙◌}
 use native.Mathlib.Omega.{arith}
-use lib.Dec.{eqb, leb, ltb}
+use lib.Dec.{leb, ltb}
 use borrow.Author.Tests.{leb-true, leb-false, ltb-true, ltb-false}
 use Rattle.fields.specs.Named.{pick}
 use Rattle.fields.specs.Numbers.{bit}
 use Rattle.perm.specs.Perm.{perm_code}
 use Rattle.perm.specs.declared.Perm.{Perm}
 use Rattle.reach.specs.declared.Reach.{Reach}
-use Rattle.reach.specs.declared.Reached.{Reached}
-use Rattle.reach.specs.declared.Reached.TheVariants.{At, Nothing}
 use Rattle.refusal.proofs.All.{all_map}
 use Rattle.refusal.specs.All.{All}
 use Rattle.runs.proofs.Joined.{Proper, Follows, follows, goes_on_lem, joined_goes_on}
@@ -20,7 +19,7 @@ use Rattle.runs.specs.Runs.{run, goes_on, joined, before, with_address, runs_fro
 use Rattle.runs.specs.declared.Run.{Run}
 use Rattle.runs_theorems.specs.LongestRuns.{holds, run_reach, reach_in}
 use Rattle.runs_theorems.proofs.Reach.{reached≢nothing, same_reach, same_perm, same_bit, held, before_held, after_held}
-use Rattle.runs_theorems.proofs.Reach.{holds_true, in_first, past_first, in_none}
+use Rattle.runs_theorems.proofs.Reach.{in_first, past_first, in_none}
 
 -- it does not go on in the first of those that follow
 abbrev pub Ends : Run → List Run → Type 0
@@ -40,7 +39,7 @@ pub all_from : (x : ℕ) (rs : List Run) → Chain x rs → All (λ r. x ≤ r.f
 all_from x [] c = tt
 all_from x (r ∷ rs) c = (c.0, all_from x rs (from_less x (suc r.last) rs (omega (arith, c.0, c.1)) c.3))
 
-pub says_nothing : (x y : ℕ) (rs : List Run) → Chain x rs → y < x → reach_in rs y ≡ Nothing
+pub says_nothing : (x y : ℕ) (rs : List Run) → Chain x rs → y < x → reach_in rs y ≡ None
 says_nothing x y rs c h =
     in_none rs y (all_map (λ r. x ≤ r.first) (λ r. y < r.first) (λ r a. omega (arith, a, h)) rs (all_from x rs c))
 
@@ -112,37 +111,37 @@ module _ (r : Run) (p : Proper r) where
       go false e = refl
 
 -- an address before those that follow
-module _ (x : ℕ) (a : Reached) (rs : List Run) (c : Chain (suc x) rs) where
+module _ (x : ℕ) (a : Option Reach) (rs : List Run) (c : Chain (suc x) rs) where
   first_says : reach_in (with_address x a rs) x ≡ a
   first_says = go a
     where
-      go : (b : Reached) → reach_in (with_address x b rs) x ≡ b
-      go (At r) =
+      go : (b : Option Reach) → reach_in (with_address x b rs) x ≡ b
+      go (Some r) =
           let none : r.pa + (x - x) ≡ r.pa = omega arith in
           before_says (run x x r) (omega arith) rs c x
           ∙ ap (λ t. pick t (run_reach (run x x r) x) (reach_in rs x)) (held (run x x r) x (omega arith) (omega arith))
-          ∙ ap (λ (p : ℕ). At (record { pa = p; perm = r.perm; xn = r.xn })) none
-      go Nothing = says_nothing (suc x) x rs c (omega arith)
+          ∙ ap (λ (p : ℕ). Some (record { pa = p; perm = r.perm; xn = r.xn })) none
+      go None = says_nothing (suc x) x rs c (omega arith)
 
   later_says : (y : ℕ) → x < y → reach_in (with_address x a rs) y ≡ reach_in rs y
   later_says y h = go a
     where
-      go : (b : Reached) → reach_in (with_address x b rs) y ≡ reach_in rs y
-      go (At r) =
+      go : (b : Option Reach) → reach_in (with_address x b rs) y ≡ reach_in rs y
+      go (Some r) =
           before_says (run x x r) (omega arith) rs c y
           ∙ ap (λ t. pick t (run_reach (run x x r) y) (reach_in rs y)) (after_held (run x x r) y h)
-      go Nothing = refl
+      go None = refl
 
 -- the runs of n addresses from x on say what these reach, and of others nothing
-module _ (f : ℕ → Reached) where
+module _ (f : ℕ → Option Reach) where
   pub runs_chain : (n x : ℕ) → Chain x (runs_from f x n)
   unfolding runs_from
   runs_chain zero x = tt
   runs_chain (suc n) x = go (f x) (runs_chain n (suc x))
     where
-      go : (a : Reached) → Chain (suc x) (runs_from f (suc x) n) → Chain x (with_address x a (runs_from f (suc x) n))
-      go (At r) c = before_chain (run x x r) (omega arith) (runs_from f (suc x) n) c
-      go Nothing c = from_less x (suc x) (runs_from f (suc x) n) (omega arith) c
+      go : (a : Option Reach) → Chain (suc x) (runs_from f (suc x) n) → Chain x (with_address x a (runs_from f (suc x) n))
+      go (Some r) c = before_chain (run x x r) (omega arith) (runs_from f (suc x) n) c
+      go None c = from_less x (suc x) (runs_from f (suc x) n) (omega arith) c
 
   pub runs_say : (n x y : ℕ) → x ≤ y → y < x + n → reach_in (runs_from f x n) y ≡ f y
   unfolding runs_from
@@ -159,7 +158,7 @@ module _ (f : ℕ → Reached) where
           subst (λ (z : ℕ). reach_in (with_address x (f x) (runs_from f (suc x) n)) z ≡ f z) same
           (first_says x (f x) (runs_from f (suc x) n) (runs_chain n (suc x)))
 
-  pub runs_stop : (n x y : ℕ) → x + n ≤ y → reach_in (runs_from f x n) y ≡ Nothing
+  pub runs_stop : (n x y : ℕ) → x + n ≤ y → reach_in (runs_from f x n) y ≡ None
   unfolding runs_from reach_in
   runs_stop zero x y a = refl
   runs_stop (suc n) x y a =

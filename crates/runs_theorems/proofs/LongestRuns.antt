@@ -1,4 +1,6 @@
 -- The longest runs are a chain that says what addresses reach, and such a chain is the longest runs.
+use Rattle.std.specs.Prelude.{Option}
+use Rattle.reach.specs.declared.Reach.{Reach}
 use Prim.Native.Nat.{ℕ, suc, ◌+◌, ◌-◌, ◌≤◌, ◌<◌}
 use mathlib.Core.Bool.{Bool, true, false, false≢true}
 use mathlib.Core.List.{List, [], ◌∷◌}
@@ -8,8 +10,6 @@ use lib.Dec.{ltb}
 use borrow.Author.Tests.{ltb-true, ltb-false}
 use Rattle.fields.specs.Numbers.{bit}
 use Rattle.perm.specs.Perm.{perm_code}
-use Rattle.reach.specs.declared.Reached.{Reached}
-use Rattle.reach.specs.declared.Reached.TheVariants.{Nothing}
 use Rattle.refusal.proofs.All.{all_always, pairs_map}
 use Rattle.refusal.specs.All.{All, AllPairs}
 use Rattle.runs.proofs.Joined.{Proper, follows, goes_on_lem}
@@ -19,7 +19,7 @@ use Rattle.runs_theorems.proofs.Chain.{Ends, Chain, all_from, says_nothing, runs
 use Rattle.runs_theorems.proofs.Reach.{same_perm, same_bit, holds_true, in_first, past_first}
 use Rattle.runs_theorems.specs.LongestRuns.{holds, run_reach, reach_in, Leads, Longest, LongestRuns, RunsAreLongest, OneListOfRuns}
 
-module _ (f : ℕ → Reached) where
+module _ (f : ℕ → Option Reach) where
   -- what is said of addresses from x on
   abbrev Says : ℕ → List Run → Type 0
   Says x rs = (y : ℕ) → x ≤ y → f y ≡ reach_in rs y
@@ -124,7 +124,7 @@ module _ (f : ℕ → Reached) where
       chain_of 0 rs (all_always (λ r. 0 ≤ r.first) (λ r. omega arith) rs) l.proper l.ascending l.longest (λ y h. l.covers y)
 
 -- what each run says of its addresses
-pub runs_tell : (f : ℕ → Reached) (rs : List Run) → LongestRuns f rs →
+pub runs_tell : (f : ℕ → Option Reach) (rs : List Run) → LongestRuns f rs →
     All (λ r. (r.first ≤ r.last) × ((x : ℕ) → r.first ≤ x → x ≤ r.last → f x ≡ run_reach r x)) rs
 runs_tell f rs l = go 0 rs (chain_longest_runs f rs l) (λ y h. l.covers y)
   where

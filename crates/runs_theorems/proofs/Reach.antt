@@ -1,28 +1,27 @@
 -- What a list of runs says of an address.
-use Prim.Native.Nat.{ℕ, zero, suc, ◌+◌, ◌-◌, ◌≤◌, ◌<◌}
+use Rattle.std.specs.Prelude.{Some, None}
+use Prim.Native.Nat.{ℕ, ◌≤◌, ◌<◌}
 use mathlib.Core.Bool.{Bool, true, false, ◌&&◌, false≢true}
 use mathlib.Core.List.{List, [], ◌∷◌}
-use mathlib.Core.Path.{◌≡◌, refl, sym, ap, ◌∙◌}
+use mathlib.Core.Path.{◌≡◌, refl, ap, ◌∙◌}
 use native.Mathlib.Omega.{arith}
 use lib.Dec.{leb}
-use borrow.Author.Tests.{leb-true, leb-false, le-leb, lt-leb}
+use borrow.Author.Tests.{leb-true, le-leb, lt-leb}
 use Rattle.fields.specs.Named.{pick}
 use Rattle.fields.specs.Numbers.{bit}
 use Rattle.perm.specs.Perm.{perm_code}
 use Rattle.perm.specs.declared.Perm.{Perm}
 use Rattle.perm.specs.declared.Perm.TheVariants.{Ro, Rw, Rx}
 use Rattle.reach.specs.declared.Reach.{Reach}
-use Rattle.reach.specs.declared.Reached.{Reached}
-use Rattle.reach.specs.declared.Reached.TheVariants.{At, Nothing}
 use Rattle.refusal.specs.All.{All}
 use Rattle.runs.specs.declared.Run.{Run}
 use Rattle.runs_theorems.specs.LongestRuns.{holds, run_reach, reach_in}
 
 -- something is not nothing, and is what it is
-pub reached≢nothing : (a : Reach) → At a ≡ Nothing → ⊥
+pub reached≢nothing : (a : Reach) → Some a ≡ None → ⊥
 reached≢nothing a e = let z : ◌≡◌ {A = ℕ} 0 1 = cc in omega arith
 
-pub same_reach : (a b : Reach) → At a ≡ At b → a ≡ b
+pub same_reach : (a b : Reach) → Some a ≡ Some b → a ≡ b
 same_reach a b e = cc
 
 pub same_perm : (p q : Perm) → perm_code p ≡ perm_code q → p ≡ q
@@ -73,7 +72,7 @@ module _ (r : Run) (x : ℕ) where
   past_first rs a = ap (λ t. pick t (run_reach r x) (reach_in rs x)) (after_held a)
 
 -- before all of them
-pub in_none : (rs : List Run) (x : ℕ) → All (λ r. x < r.first) rs → reach_in rs x ≡ Nothing
+pub in_none : (rs : List Run) (x : ℕ) → All (λ r. x < r.first) rs → reach_in rs x ≡ None
 unfolding reach_in
 in_none [] x a = refl
 in_none (r ∷ rs) x a = ap (λ t. pick t (run_reach r x) (reach_in rs x)) (before_held r x a.0) ∙ in_none rs x a.1

@@ -1,36 +1,34 @@
 -- The digits of a number are read as the number, and each part of a line stands where it is read.
+use Rattle.std.specs.Prelude.{Some, None}
 use Prim.Native.Nat.{ℕ, zero, suc, ◌+◌, ◌-◌, ◌*◌, ◌/◌, ◌%◌, ◌^◌, ◌≤◌, ◌<◌}
-use mathlib.Core.Bool.{Bool, true, false, ◌&&◌, false≢true}
-use mathlib.Core.List.{List, [], ◌∷◌, ◌++◌, foldl, foldl-append}
+use mathlib.Core.Bool.{Bool, true, false}
+use mathlib.Core.List.{List, [], ◌∷◌}
 use mathlib.Core.Logic.{◌⊎◌, inl, inr}
 use mathlib.Core.Path.{◌≡◌, refl, sym, ap, ap₂, subst, ◌∙◌}
 use native.Mathlib.Nat.{pow-suc, div-lt_iff_lt-mul}
 use native.Mathlib.Omega.{arith}
-use lib.Dec.{leb, ltb}
+use lib.Dec.{ltb}
 use lib.ListN.{take, drop, get_or}
 use lib.Seq.{take_at, drop_at}
 use borrow.Author.Tests.{ltb-true, ltb-false, le-leb, lt-leb}
+use Rattle.std.proofs.lemmas.List.Sums.{fold-append}
 use Rattle.fields.specs.Ascii.{ascii}
-use Rattle.fields.specs.Named.{pick}
 use Rattle.perm.specs.Perm.{perm_writes}
 use Rattle.perm.specs.declared.Perm.{Perm}
 use Rattle.perm.specs.declared.Perm.TheVariants.{Ro, Rw, Rx}
-use Rattle.refusal.specs.All.{All}
 use Rattle.runs.proofs.Page.{line_length_lem, page_none, page_next}
-use Rattle.runs.specs.Page.{access_text, execute_text, line_length, run_line, last_line, page_of}
+use Rattle.runs.specs.Page.{line_length, run_line, last_line, page_of}
 use Rattle.runs.specs.declared.Run.{Run}
 use Rattle.scene_line.specs.Line.{digit_of, with_digit, with_digits, number_of}
-use Rattle.scene_line.specs.declared.Number.{Number}
-use Rattle.scene_line.specs.declared.Number.TheVariants.{Value, NoNumber}
 use Rattle.text.specs.Digits.{glyph, digits}
 use Rattle.runs_theorems.proofs.Chain.{with_all}
 use Rattle.runs_theorems.specs.Reading.{Spelled, part, LineTells, PageTells, PagesAreRead, OneReading}
 
-digit_read : (d : ℕ) → d < 16 → digit_of (glyph d) ≡ Value d
+digit_read : (d : ℕ) → d < 16 → digit_of (glyph d) ≡ Some d
 unfolding digit_of
 digit_read d h = go (ltb d 10) refl
   where
-    go : (b : Bool) → ltb d 10 ≡ b → digit_of (glyph d) ≡ Value d
+    go : (b : Bool) → ltb d 10 ≡ b → digit_of (glyph d) ≡ Some d
     go true e =
         let less : d < 10 = ltb-true d 10 e in
         let back : 0x30 + d - 0x30 ≡ d = omega arith in
@@ -47,25 +45,25 @@ digit_read d h = go (ltb d 10) refl
           back,
         ) refl
 
-digits_read : (k n : ℕ) → n < 16 ^ k → with_digits (Value 0) (digits k n) ≡ Value n
-digits_read zero n h = let none : 0 ≡ n = omega (arith, h) in ap Value none
+digits_read : (k n : ℕ) → n < 16 ^ k → with_digits (Some 0) (digits k n) ≡ Some n
+digits_read zero n h = let none : 0 ≡ n = omega (arith, h) in ap Some none
 digits_read (suc k) n h =
     let fits : n / 16 < 16 ^ k = (div-lt_iff_lt-mul {k = 16} (omega arith)).1 (rw pow-suc at h) in
     let whole : n / 16 * 16 + n % 16 ≡ n = omega arith in
-    foldl-append (λ m c. with_digit m (digit_of c)) (Value 0) (digits k (n / 16)) (glyph (n % 16) ∷ [])
+    fold-append (λ m c. with_digit m (digit_of c)) (Some 0) (digits k (n / 16)) (glyph (n % 16) ∷ [])
     ∙ ap₂ with_digit (digits_read k (n / 16) fits) (digit_read (n % 16) (omega arith))
-    ∙ ap Value whole
+    ∙ ap Some whole
 
 module _ (r : Run) (s : Spelled r) where
-  first_read : number_of (part (run_line r) 0 10) ≡ Value r.first
+  first_read : number_of (part (run_line r) 0 10) ≡ Some r.first
   unfolding run_line number_of
   first_read = digits_read 10 r.first (omega (arith, s.proper, s.addresses))
 
-  last_read : number_of (part (run_line r) 11 10) ≡ Value r.last
+  last_read : number_of (part (run_line r) 11 10) ≡ Some r.last
   unfolding run_line number_of
   last_read = digits_read 10 r.last s.addresses
 
-  output_read : number_of (part (run_line r) 22 12) ≡ Value r.pa
+  output_read : number_of (part (run_line r) 22 12) ≡ Some r.pa
   unfolding run_line number_of
   output_read = digits_read 12 r.pa (omega (arith, s.outputs))
 
@@ -106,10 +104,10 @@ pages_are_read (r ∷ rs) s =
     )
 
 -- a number that is read is one number
-same_value : (a b : ℕ) → Value a ≡ Value b → a ≡ b
+same_value : (a b : ℕ) → Some a ≡ Some b → a ≡ b
 same_value a b e = cc
 
-no_value : (a : ℕ) → NoNumber ≡ Value a → ⊥
+no_value : (a : ℕ) → None ≡ Some a → ⊥
 no_value a e = let z : ◌≡◌ {A = ℕ} 0 1 = cc in omega arith
 
 one_run : (line : List ℕ) (r t : Run) → LineTells line r → LineTells line t → r ≡ t
@@ -153,7 +151,7 @@ one_run line r t a b =
 no_run : (page : List ℕ) (r : Run) → page ≡ ascii "=======================================\n" → LineTells (take line_length page) r → ⊥
 unfolding number_of digit_of
 no_run page r e a =
-    let none : number_of (part (take line_length page) 0 10) ≡ NoNumber = ap (λ (p : List ℕ). number_of (part (take line_length p) 0 10)) e in
+    let none : number_of (part (take line_length page) 0 10) ≡ None = ap (λ (p : List ℕ). number_of (part (take line_length p) 0 10)) e in
     no_value r.first (sym none ∙ a.first)
 
 pub one_reading : OneReading

@@ -15,7 +15,7 @@ use Rattle.p2m.specs.Frame.{span_named}
 use Rattle.reach.specs.Reach.{reach_values}
 use Rattle.refusal.specs.Outcome.{outcome_words}
 use Rattle.refusal.specs.Table.{Outcome, first}
-use Rattle.refusal.specs.Told.{Told, after, told_words}
+use Rattle.refusal.specs.Told.{Told, values_if, after, told_words}
 use Rattle.rows.specs.Rows.{refusals, arena_guard_rows}
 use Rattle.update.specs.Step.{step_rows, left_by}
 use Rattle.verify_rows.specs.Verifying.{verify_rows}
@@ -49,14 +49,14 @@ pub record StepAnswer (numbers base sup : List ℕ) (n : ℕ) (old answer new : 
 
 -- by the arena, the six table addresses and the address
 abbrev pub walk_answer : List ℕ → List ℕ → ℕ → List ℕ
-walk_answer arena tables x = told_words reach_values (walked_from arena tables x)
+walk_answer arena tables x = told_words (values_if reach_values) (walked_from arena tables x)
 
 abbrev pub verify_answer : List ℕ → List ℕ → List ℕ → List ℕ → List ℕ
 verify_answer numbers arena base sup = outcome_words (first (verify_rows arena base sup (layout_of numbers)))
 
 abbrev pub exposed_answer : List ℕ → List ℕ
 exposed_answer numbers =
-    let l = layout_of numbers in told_words exposure_values (after (first (refusals l)) (exposure l))
+    let l = layout_of numbers in told_words (values_if exposure_values) (after (first (refusals l)) (exposure l))
 
 abbrev pub bytes_told : Told ℕ → List ℕ
 bytes_told t = told_words (λ n. n ∷ []) t

@@ -2,19 +2,16 @@
 // sixteen fields in their order, with whether there is an image just before the image. A call returns 0 where it accepts.
 #![tactic(auto)]
 
-ghost use Rattle.std.specs.Prelude.{◌<◌, ◌^◌, [], ◌∷◌, ◌≡◌, get_or};
+ghost use Rattle.std.specs.Prelude.{[], ◌∷◌, ◌≡◌};
 ghost use Rattle.edge.specs.Edge.{edges_of};
-ghost use Rattle.refusal.specs.Outcome.{outcome_of, outcome_words};
+ghost use Rattle.refusal.specs.Told.{told_of, told_words};
 ghost use Rattle.s2.specs.Answers.{validate_answer, fill_answer, EncodeAnswer, StepAnswer, walk_answer, verify_answer, exposed_answer};
 ghost use Rattle.s2.specs.Answers.{PageAnswer, authorized_answer, exact_answer};
 
-use annex::Annexed;
 use edge::Edge;
-use exposed::Exposed;
 use layout::Layout;
 use p2m::Span;
-use reach::Walked;
-use refusal::Verdict;
+use refusal::{Refusal, Told};
 
 // Rows 4 to 12.
 #[unsafe(no_mangle)]
@@ -60,7 +57,7 @@ pub extern "C" fn s2_fill_edges(
         ≡ fill_answer edges.now frames.now dom base.old sup.old }
 {
     answer(
-        leafmap_edges::leaf_map_from_edges(edges, frames, dom, base, sup),
+        leafmap::leaf_map_from_edges(edges, frames, dom, base, sup),
         values,
     )
 }
@@ -112,10 +109,7 @@ pub extern "C" fn s2_walk(
 ) -> u32
     ensures { (result ∷ values.new) ≡ walk_answer arena.now tables.now ipa }
 {
-    match walker::walk(arena, tables, ipa) {
-        Walked::Told(reached) => told(reached.words(), values),
-        Walked::Refused(refusal) => answer(Verdict::Refused(refusal), values),
-    }
+    answer(walker::walk(arena, tables, ipa), values)
 }
 
 // Rows 1 to 12 and 18 to 22.
@@ -141,10 +135,10 @@ pub extern "C" fn s2_verify(
 pub extern "C" fn s2_exposed(layout: &[u64; Layout::NUMBERS], values: &mut [u64; 8]) -> u32
     ensures { (result ∷ values.new) ≡ exposed_answer layout.now }
 {
-    match exposed::exposed_table(layout_numbers::layout_of(layout)) {
-        Exposed::Told(exposure) => told(exposure.words(), values),
-        Exposed::Refused(refusal) => answer(Verdict::Refused(refusal), values),
-    }
+    answer(
+        exposed::exposed_table(layout_numbers::layout_of(layout)),
+        values,
+    )
 }
 
 // Rows 2 to 14, then 27. The page is the front part of the buffer, which a refusal leaves as found; its bytes are told.
@@ -159,10 +153,10 @@ pub extern "C" fn s2_annex(
     ensures { PageAnswer layout.now base.now sup.now page.old (result ∷ values.new)
         page.new }
 {
-    match annex::annex(page, base, sup, layout_numbers::layout_of(layout)) {
-        Annexed::Told(bytes) => told([0, bytes, 0, 0, 0, 0, 0, 0, 0], values),
-        Annexed::Refused(refusal) => answer(Verdict::Refused(refusal), values),
-    }
+    answer(
+        annex::annex(page, base, sup, layout_numbers::layout_of(layout)),
+        values,
+    )
 }
 
 // Rows 2, 3, 23 and 24.
@@ -195,7 +189,7 @@ pub extern "C" fn s2_exact(
     ensures { (result ∷ values.new)
         ≡ exact_answer dom map.now span (edges_of edges.now) frames.now }
 {
-    let span = Span::of(span);
+    let span = Span::from(span);
     answer(exact::check_exact(dom, map, span, edges, frames), values)
 }
 
@@ -211,25 +205,15 @@ pub extern "C" fn s2_exact_edges(
 ) -> u32
     ensures { (result ∷ values.new) ≡ exact_answer dom map.now span edges.now frames.now }
 {
-    let span = Span::of(span);
-    answer(
-        exact_edges::check_exact(dom, map, span, edges, frames),
-        values,
-    )
+    let span = Span::from(span);
+    answer(exact::check_exact(dom, map, span, edges, frames), values)
 }
 
 // The number, and the values.
-fn answer(verdict: Verdict, values: &mut [u64; 8]) -> u32
-    ensures { (result ∷ values.new) ≡ outcome_words (outcome_of verdict) }
+fn answer<T: Told>(told: Result<T, Refusal>, values: &mut [u64; 8]) -> u32
+    ensures { (result ∷ values.new) ≡ told_words T.values (told_of told) }
 {
-    told(verdict.words(), values)
-}
-
-// Nine words, of which the first is a row's number or 0.
-fn told(w: [u64; 9], values: &mut [u64; 8]) -> u32
-    requires { get_or w 0 0 < 2 ^ 32 }
-    ensures { (result ∷ values.new) ≡ w }
-{
-    *values = [w[1], w[2], w[3], w[4], w[5], w[6], w[7], w[8]];
-    w[0] as u32
+    let words = refusal::words(told);
+    values.copy_from_slice(&words[1..]);
+    words[0] as u32
 }

@@ -30,6 +30,6 @@ fn read_page<R: Read>(input: &mut R, page: &mut [u8; annex::LONGEST]) -> io::Res
     let mut numbers = [0; Layout::NUMBERS];
     let mut base = [0; Layout::ENTRIES];
     let mut sup = [0; Layout::ENTRIES];
-    let said = scene_read::read_scene(input, &mut numbers, &mut base, &mut sup)?;
-    Ok(annex_text::print(said, &numbers, &base, &sup, page))
+    let read = scene_read::read_scene(input, &mut numbers, &mut base, &mut sup)?;
+    Ok(annex_text::print(read, &numbers, &base, &sup, page))
 }

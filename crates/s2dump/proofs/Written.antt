@@ -1,22 +1,9 @@
 -- Pieces that are written one after the other.
-use Rattle.std.proofs.Common.{ℕ, zero, suc, ◌+◌, ◌≡◌, arith, List, [], ◌++◌, sym, ap, ◌∙◌, take, Option, None, Some}
+use Rattle.std.proofs.Common.{ℕ, zero, suc, ◌+◌, ◌≡◌, arith, List, ◌++◌, sym, ap, ◌∙◌, take}
 use Rattle.std.proofs.lemmas.List.{append_assoc, append-nil}
 use Rattle.std.proofs.Math.Seq.{take_at}
-use Rattle.std.specs.Io.KnownBytes.{Appends}
 use Rattle.dump.specs.Dump.{in_order}
 use Rattle.printed.specs.Line.{Puts}
-
-pub nothing_written : (old : Option (List ℕ)) → Appends old old []
-nothing_written None = tt
-nothing_written (Some xs) = sym (append-nil xs)
-
-pub written :
-    (old between new : Option (List ℕ)) (xs ys : List ℕ) →
-    Appends old between xs → Appends between new ys → Appends old new (xs ++ ys)
-written None between new xs ys a b = tt
-written (Some os) None new xs ys a b = absurd a
-written (Some os) (Some bs) None xs ys a b = absurd b
-written (Some os) (Some bs) (Some ns) xs ys a b = b ∙ ap (λ zs. zs ++ ys) a ∙ append_assoc os xs ys
 
 -- one piece more
 next_piece : (text : ℕ → List ℕ) (k n : ℕ) → in_order text k (suc n) ≡ in_order text k n ++ text (k + n)

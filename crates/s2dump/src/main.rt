@@ -31,8 +31,8 @@ fn read_dump<R: Read>(input: &mut R) -> io::Result<Dump>
     let mut numbers = [0; Layout::NUMBERS];
     let mut base = [0; Layout::ENTRIES];
     let mut sup = [0; Layout::ENTRIES];
-    let said = scene_read::read_scene(input, &mut numbers, &mut base, &mut sup)?;
-    Ok(Dump::of(said, &numbers, &base, &sup))
+    let read = scene_read::read_scene(input, &mut numbers, &mut base, &mut sup)?;
+    Ok(Dump::of(read, &numbers, &base, &sup))
 }
 
 // Its pieces, one after the other.

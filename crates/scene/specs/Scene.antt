@@ -4,7 +4,7 @@ use Rattle.fields.specs.Named.{pick}
 use Rattle.layout.specs.Layout.{number_count, image_field, field_at}
 use Rattle.layout.specs.Size.{entries}
 use Rattle.scene_line.specs.declared.Line.{Line}
-use Rattle.scene_line.specs.declared.Line.TheVariants.{Field, Base, Super, Bad}
+use Rattle.scene_line.specs.declared.Line.TheVariants.{Field, Base, Super}
 
 pub record Scene : Type 0 where
   pub numbers : List ℕ
@@ -28,4 +28,3 @@ abbrev pub applied : Scene → Line → Scene
 applied s (Field n value) = scene (with_field s.numbers n value) s.base s.sup
 applied s (Base position code) = scene s.numbers (set s.base position code) s.sup
 applied s (Super position code) = scene s.numbers s.base (set s.sup position code)
-applied s Bad = s

@@ -17,9 +17,8 @@ pub fn apply(line: Line, numbers: &mut [u64], base: &mut [u8], sup: &mut [u8])
 {
     match line {
         Line::Field { field, value } => put_field(numbers, field, value),
-        Line::Base { position, code } => put_entry(base, position, code),
-        Line::Super { position, code } => put_entry(sup, position, code),
-        Line::Bad => {}
+        Line::Base { position, code } => put(base, position, code),
+        Line::Super { position, code } => put(sup, position, code),
     }
 }
 
@@ -29,38 +28,27 @@ fn put_field(numbers: &mut [u64], field: usize, value: u64)
     ensures { numbers.new ≡ with_field numbers.old field value }
 {
     if field == IMAGE {
-        put_number(numbers, IMAGE - 1, 1);
+        put(numbers, IMAGE - 1, 1);
     }
-    put_number(numbers, place_of(field), value);
+    put(numbers, place_of(field), value);
 }
 
 // No line has the field 0.
 fn place_of(field: usize) -> usize
     ensures { result ≡ field_at field }
 {
-    if field == 0 {
-        return 0;
-    }
     if field < IMAGE {
-        return field - 1;
-    }
-    field
-}
-
-// A number past the list is none.
-fn put_number(numbers: &mut [u64], place: usize, value: u64)
-    ensures { numbers.new ≡ set numbers.old place value }
-{
-    if place < numbers.len() {
-        numbers[place] = value;
+        field.saturating_sub(1)
+    } else {
+        field
     }
 }
 
-// An entry past the map is none.
-fn put_entry(map: &mut [u8], position: usize, code: u8)
-    ensures { map.new ≡ set map.old position code }
+// A place past the list is none. By an index, since nothing is known of a slice after its `get_mut`.
+fn put<T: Copy>(xs: &mut [T], place: usize, x: T)
+    ensures { xs.new ≡ set xs.old place x }
 {
-    if position < map.len() {
-        map[position] = code;
+    if place < xs.len() {
+        xs[place] = x;
     }
 }

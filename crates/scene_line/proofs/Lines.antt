@@ -1,29 +1,24 @@
--- A line by its first bytes: too short or with no space after its letter it is bad.
-use Prim.Native.Nat.{ℕ, ◌≤◌, ◌<◌}
-use mathlib.Core.List.{List, [], ◌∷◌}
-use mathlib.Core.Path.{◌≡◌, refl, ap}
-use native.Mathlib.Omega.{arith}
-use lib.ListN.{length, get_or, drop}
-use borrow.Author.Tests.{eq-eqb, ne_eqb}
+-- A line by its first two bytes, and what follows them by its first space.
+use Rattle.std.proofs.Common.{ℕ, ◌+◌, ◌≤◌, ◌&&◌, List, [], ◌∷◌, ◌≡◌, refl, ap, ◌∙◌, arith, eqb, leb, length, get_or, drop, Option, Some, None}
+use Rattle.std.proofs.lemmas.List.{drop_all}
+use borrow.Author.Tests.{le-leb}
 use Rattle.fields.specs.Ascii.{space}
 use Rattle.fields.specs.Named.{pick}
-use Rattle.scene_line.specs.Line.{said_after, line_of}
-use Rattle.scene_line.specs.declared.Line.TheVariants.{Bad}
+use Rattle.scene_line.specs.Line.{number_of, first_space, before_space, said_by, said_after, line_of}
 
-pub too_short : (cs : List ℕ) → length cs < 2 → line_of cs ≡ Bad
+pub line_read :
+    (cs : List ℕ) → line_of cs ≡ pick (leb 2 (length cs) && eqb (get_or cs 1 0) space) (said_after (get_or cs 0 0) (drop 2 cs)) None
 unfolding line_of
-too_short [] h = refl
-too_short (letter ∷ []) h = refl
-too_short (letter ∷ c ∷ cs) h = absurd (omega (arith, h))
+line_read [] = refl
+line_read (letter ∷ []) = refl
+line_read (letter ∷ c ∷ cs) = let two : 2 ≤ length (letter ∷ c ∷ cs) = omega arith in rw (le-leb _ _ two)
 
-pub no_space : (cs : List ℕ) → 2 ≤ length cs → (get_or cs 1 0 ≡ space → ⊥) → line_of cs ≡ Bad
-unfolding line_of
-no_space [] h other = refl
-no_space (letter ∷ []) h other = refl
-no_space (letter ∷ c ∷ cs) h other = ap (λ b. pick b (said_after letter cs) Bad) (ne_eqb c space other)
+pub no_second : (letter : ℕ) (n : Option ℕ) → said_by letter n None ≡ None
+no_second letter (Some a) = refl
+no_second letter None = refl
 
-pub spaced : (cs : List ℕ) → 2 ≤ length cs → get_or cs 1 0 ≡ space → line_of cs ≡ said_after (get_or cs 0 0) (drop 2 cs)
-unfolding line_of
-spaced [] h e = absurd (omega (arith, h))
-spaced (letter ∷ []) h e = absurd (omega (arith, h))
-spaced (letter ∷ c ∷ cs) h e = ap (λ b. pick b (said_after letter cs) Bad) (eq-eqb c space e)
+pub no_space : (letter : ℕ) (cs : List ℕ) → length cs ≤ first_space cs → said_after letter cs ≡ None
+unfolding said_after number_of
+no_space letter cs past =
+    ap (λ xs. said_by letter (number_of (before_space cs)) (number_of xs)) (drop_all (first_space cs + 1) cs (omega (arith, past)))
+    ∙ no_second letter (number_of (before_space cs))

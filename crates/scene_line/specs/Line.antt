@@ -1,13 +1,11 @@
 -- A line of a scene, by document 01 ("Proved and printed"): L field value, B position code, or U position code for supers.
-use Rattle.std.specs.Prelude.{ℕ, suc, ◌+◌, ◌-◌, ◌*◌, Bool, true, false, ◌&&◌, ◌||◌, not, eqb, leb, length, take, drop}
-use mathlib.Core.List.{List, [], ◌∷◌, foldl}
+use Rattle.std.specs.Prelude.{ℕ, ◌+◌, ◌-◌, ◌*◌, Bool, ◌&&◌, ◌||◌, not, eqb, leb, List, [], ◌∷◌, length, fold, Option, Some, None}
+use Rattle.std.specs.List.{position_or_len, before_first, after_first}
 use Rattle.fields.specs.Ascii.{space}
 use Rattle.fields.specs.Named.{pick}
 use Rattle.layout.specs.Layout.{field_count}
 use Rattle.scene_line.specs.declared.Line.{Line}
-use Rattle.scene_line.specs.declared.Line.TheVariants.{Field, Base, Super, Bad}
-use Rattle.scene_line.specs.declared.Number.{Number}
-use Rattle.scene_line.specs.declared.Number.TheVariants.{Value, NoNumber}
+use Rattle.scene_line.specs.declared.Line.TheVariants.{Field, Base, Super}
 
 -- the letters, by their ASCII codes
 abbrev pub letter_l : ℕ
@@ -23,35 +21,37 @@ abbrev pub within : ℕ → ℕ → ℕ → Bool
 within least most n = leb least n && leb n most
 
 -- 0 to 9, A to F
-unfoldable pub digit_of : ℕ → Number
+unfoldable pub digit_of : ℕ → Option ℕ
 digit_of c =
-    pick (within 0x30 0x39 c) (Value (c - 0x30)) (pick (within 0x41 0x46 c) (Value (c - 0x41 + 10)) NoNumber)
+    pick (within 0x30 0x39 c) (Some (c - 0x30)) (pick (within 0x41 0x46 c) (Some (c - 0x41 + 10)) None)
 
 -- one more digit after a number
-abbrev pub with_digit : Number → Number → Number
-with_digit (Value n) (Value d) = Value (n * 16 + d)
-with_digit (Value n) NoNumber = NoNumber
-with_digit NoNumber d = NoNumber
+abbrev pub with_digit : Option ℕ → Option ℕ → Option ℕ
+with_digit (Some n) (Some d) = Some (n * 16 + d)
+with_digit (Some n) None = None
+with_digit None d = None
 
 -- more digits after a number
-abbrev pub with_digits : Number → List ℕ → Number
-with_digits n cs = foldl (λ m c. with_digit m (digit_of c)) n cs
+abbrev pub with_digits : Option ℕ → List ℕ → Option ℕ
+with_digits n cs = fold (λ m c. with_digit m (digit_of c)) n cs
 
 -- 1 to 16 digits, upper case
-unfoldable pub number_of : List ℕ → Number
-number_of cs = pick (within 1 16 (length cs)) (with_digits (Value 0) cs) NoNumber
+unfoldable pub number_of : List ℕ → Option ℕ
+number_of cs = pick (within 1 16 (length cs)) (with_digits (Some 0) cs) None
+
+abbrev pub is_space : ℕ → Bool
+is_space c = eqb c space
 
 -- where the first space stands, or the end
-unfoldable pub first_space : List ℕ → ℕ
-first_space [] = 0
-first_space (c ∷ cs) = pick (eqb c space) 0 (suc (first_space cs))
+abbrev pub first_space : List ℕ → ℕ
+first_space cs = position_or_len is_space cs
 
 -- the bytes before the first space, and those after it
 abbrev pub before_space : List ℕ → List ℕ
-before_space cs = take (first_space cs) cs
+before_space cs = before_first is_space cs
 
 abbrev pub after_space : List ℕ → List ℕ
-after_space cs = drop (first_space cs + 1) cs
+after_space cs = after_first is_space cs
 
 abbrev pub exemption : ℕ
 exemption = 0xF
@@ -64,30 +64,23 @@ is_field n value = within 1 field_count n && (not (eqb n exemption) || leb value
 abbrev pub is_entry : ℕ → ℕ → Bool
 is_entry position code = leb position 0x1FF && leb code 3
 
--- what a letter says of two numbers
-unfoldable pub said : ℕ → ℕ → ℕ → Line
+-- what a letter says of two numbers, if it says something
+unfoldable pub said : ℕ → ℕ → ℕ → Option Line
 said letter a b =
-    pick (eqb letter letter_l && is_field a b) (Field a b)
-    (pick (eqb letter letter_b && is_entry a b) (Base a b) (pick (eqb letter letter_u && is_entry a b) (Super a b) Bad))
+    pick (eqb letter letter_l && is_field a b) (Some (Field a b))
+    (pick (eqb letter letter_b && is_entry a b) (Some (Base a b)) (pick (eqb letter letter_u && is_entry a b) (Some (Super a b)) None))
 
-abbrev pub said_by : ℕ → Number → Number → Line
-said_by letter (Value a) (Value b) = said letter a b
-said_by letter (Value a) NoNumber = Bad
-said_by letter NoNumber b = Bad
+abbrev pub said_by : ℕ → Option ℕ → Option ℕ → Option Line
+said_by letter (Some a) (Some b) = said letter a b
+said_by letter (Some a) None = None
+said_by letter None b = None
 
 -- two numbers with one space between
-unfoldable pub said_after : ℕ → List ℕ → Line
+unfoldable pub said_after : ℕ → List ℕ → Option Line
 said_after letter cs = said_by letter (number_of (before_space cs)) (number_of (after_space cs))
 
--- a letter, a space and the two numbers, without the line feed
-unfoldable pub line_of : List ℕ → Line
-line_of [] = Bad
-line_of (letter ∷ []) = Bad
-line_of (letter ∷ c ∷ cs) = pick (eqb c space) (said_after letter cs) Bad
-
--- whether it says something
-abbrev pub says : Line → Bool
-says (Field n value) = true
-says (Base position code) = true
-says (Super position code) = true
-says Bad = false
+-- a letter, a space and the two numbers, without the line feed; a line of another form says nothing
+unfoldable pub line_of : List ℕ → Option Line
+line_of [] = None
+line_of (letter ∷ []) = None
+line_of (letter ∷ c ∷ cs) = pick (eqb c space) (said_after letter cs) None

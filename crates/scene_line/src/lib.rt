@@ -1,8 +1,9 @@
 // What a line of a scene says (document 01, "Proved and printed").
 #![tactic(auto)]
 
-ghost use Rattle.std.specs.Prelude.{◌≡◌};
-ghost use Rattle.scene_line.specs.Line.{digit_of, first_space, letter_l, line_of, number_of, said, said_after, says};
+ghost use Rattle.std.specs.Prelude.{◌<◌, ◌≡◌, position, IfSome};
+ghost use Rattle.fields.specs.Named.{pick};
+ghost use Rattle.scene_line.specs.Line.{digit_of, is_entry, is_space, letter_l, line_of, number_of, said, said_after};
 
 use layout::Layout;
 
@@ -11,159 +12,98 @@ pub enum Line {
     Field { field: usize, value: u64 },
     Base { position: usize, code: u8 },
     Super { position: usize, code: u8 },
-    Bad,
 }
 
-#[derive(Clone, Copy)]
-pub enum Number {
-    Value(u64),
-    NoNumber,
-}
+// The field that is 0 or 1.
+const EXEMPTION: u64 = 0xF;
 
-impl Line {
-    // The field that is 0 or 1.
-    const EXEMPTION: u64 = 0xF;
-
-    // Whether it says something.
-    pub fn says(self) -> bool
-        ensures { result ≡ says self }
-    {
-        match self {
-            Line::Field { field: _, value: _ } => true,
-            Line::Base {
-                position: _,
-                code: _,
-            } => true,
-            Line::Super {
-                position: _,
-                code: _,
-            } => true,
-            Line::Bad => false,
-        }
-    }
-}
-
-// What a line says, without its line feed.
-pub fn line_of(text: &[u8]) -> Line
+// What a line says, without its line feed; a line outside the form says nothing.
+#[tactic(auto, using(crate::proofs::Lines::line_read, std::proofs::lemmas::Grind::common_steps))]
+pub fn line_of(text: &[u8]) -> Option<Line>
     ensures { result ≡ line_of text.now }
 {
-    if text.len() < 2 {
-        return Line::Bad;
+    match text {
+        [letter, b' ', after @ ..] => said_after(*letter, after),
+        _ => None,
     }
-    if text[1] != b' ' {
-        return Line::Bad;
-    }
-    said_after(text[0], &text[2..])
 }
 
 // The same from its letter and what follows the first space.
-fn said_after(letter: u8, text: &[u8]) -> Line
+#[tactic(auto, using(crate::proofs::Lines::no_space), unfolding(crate::specs::Line::said_after))]
+fn said_after(letter: u8, text: &[u8]) -> Option<Line>
     ensures { result ≡ said_after letter text.now }
 {
-    let end = first_space(text);
-    if text.len() <= end {
-        return Line::Bad;
-    }
-    let Number::Value(a) = number_of(&text[..end]) else {
-        return Line::Bad;
-    };
-    let Number::Value(b) = number_of(&text[end + 1..]) else {
-        return Line::Bad;
-    };
+    let end = first_space(text)?;
+    let a = number_of(&text[..end])?;
+    let b = number_of(&text[end + 1..])?;
     said(letter, a, b)
+}
+
+fn first_space(text: &[u8]) -> Option<usize>
+    ensures { result ≡ position is_space text.now }
+{
+    text.iter().position(|c| *c == b' ')
 }
 
 // What a letter says of two numbers.
 #[tactic(auto, unfolding(crate::specs::Line::said))]
-fn said(letter: u8, a: u64, b: u64) -> Line
+fn said(letter: u8, a: u64, b: u64) -> Option<Line>
     ensures { result ≡ said letter a b }
 {
-    if letter == b'L' {
-        return field(a, b);
+    match letter {
+        b'L' => field(a, b),
+        b'B' => entry(a, b).map(|(position, code)| Line::Base { position, code }),
+        b'U' => entry(a, b).map(|(position, code)| Line::Super { position, code }),
+        _ => None,
     }
-    if 0x1FF < a {
-        return Line::Bad;
-    }
-    if 3 < b {
-        return Line::Bad;
-    }
-    if letter == b'B' {
-        return Line::Base {
-            position: a as usize,
-            code: b as u8,
-        };
-    }
-    if letter == b'U' {
-        return Line::Super {
-            position: a as usize,
-            code: b as u8,
-        };
-    }
-    Line::Bad
 }
 
-// The same of the letter L.
 #[tactic(auto, unfolding(crate::specs::Line::said))]
-fn field(n: u64, value: u64) -> Line
+fn field(n: u64, value: u64) -> Option<Line>
     ensures { result ≡ said letter_l n value }
 {
-    if n < 1 {
-        return Line::Bad;
+    if n < 1 || Layout::FIELDS < n || n == EXEMPTION && 1 < value {
+        return None;
     }
-    if Layout::FIELDS < n {
-        return Line::Bad;
-    }
-    if n == Line::EXEMPTION {
-        if 1 < value {
-            return Line::Bad;
-        }
-    }
-    Line::Field {
+    Some(Line::Field {
         field: n as usize,
         value,
-    }
+    })
 }
 
-// The index of the first space, or the length.
-fn first_space(text: &[u8]) -> usize
-    ensures { result ≡ first_space text.now }
+// A position of a map and its entry's code.
+fn entry(position: u64, code: u64) -> Option<(usize, u8)>
+    ensures { result ≡ pick (is_entry position code) (Some (position, code)) None }
 {
-    for i in 0..text.len() {
-        if text[i] == b' ' {
-            return i;
-        }
+    if 0x1FF < position || 3 < code {
+        return None;
     }
-    text.len()
+    Some((position as usize, code as u8))
 }
 
 // At most 16 digits, so that every number fits.
-#[tactic(auto, unfolding(crate::specs::Line::number_of))]
-fn number_of(text: &[u8]) -> Number
+#[tactic(auto, using(crate::proofs::Digits::few_digits), unfolding(crate::specs::Line::number_of))]
+fn number_of(text: &[u8]) -> Option<u64>
     ensures { result ≡ number_of text.now }
 {
-    if text.len() < 1 {
-        return Number::NoNumber;
-    }
-    if 16 < text.len() {
-        return Number::NoNumber;
+    if text.is_empty() || 16 < text.len() {
+        return None;
     }
     let mut n = 0;
-    for i in 0..text.len() {
-        let Number::Value(d) = digit(text[i]) else {
-            return Number::NoNumber;
-        };
-        n = n * 16 + d;
+    for c in text {
+        n = n * 16 + digit(*c)?;
     }
-    Number::Value(n)
+    Some(n)
 }
 
 #[tactic(auto, unfolding(crate::specs::Line::digit_of))]
-fn digit(c: u8) -> Number
-    ensures { result ≡ digit_of c }
+fn digit(c: u8) -> Option<u64>
+    ensures value { result ≡ digit_of c }
+    ensures below { IfSome result (λ d. d < 16) }
 {
     match c {
-        b'0'..=b'9' => Number::Value((c - b'0') as u64),
-        b'A'..=b'F' => Number::Value((c - b'A' + 10) as u64),
-        _ => Number::NoNumber,
+        b'0'..=b'9' => Some((c - b'0') as u64),
+        b'A'..=b'F' => Some((c - b'A' + 10) as u64),
+        _ => None,
     }
 }

@@ -5,18 +5,18 @@ ghost use Rattle.std.specs.Prelude.{IfOk, OnErr};
 ghost use Rattle.scene.specs.Scene.{scene};
 ghost use Rattle.scene_read.specs.Input.{ReadsText, LeavesText};
 
-use scene_text::Taken;
+use scene_text::BadLine;
 use std::io;
 use std::io::Read;
 
-// Whether every line said something.
+// A bad line ends the reading.
 pub fn read_scene<R: Read>(
     input: &mut R,
     numbers: &mut [u64],
     base: &mut [u8],
     sup: &mut [u8],
-) -> io::Result<bool>
-    ensures ok { IfOk result (λ said. ReadsText (R.remaining input.old) (scene numbers.old base.old sup.old) said (scene numbers.new base.new sup.new)) }
+) -> io::Result<Result<(), BadLine>>
+    ensures ok { IfOk result (λ read. ReadsText (R.remaining input.old) (scene numbers.old base.old sup.old) read (scene numbers.new base.new sup.new)) }
     ensures err { OnErr result (LeavesText (R.remaining input.old) (R.remaining input.new) (scene numbers.old base.old sup.old) (scene numbers.new base.new sup.new)) }
 {
     let mut piece = [0; 4096];
@@ -28,17 +28,10 @@ pub fn read_scene<R: Read>(
         if n == 0 {
             break;
         }
-        let Taken::Unfinished(kept) = scene_text::take(
-            &piece[..n],
-            &mut line,
-            len,
-            numbers,
-            base,
-            sup,
-        ) else {
-            return Ok(false);
-        };
-        len = kept;
+        match scene_text::take(&piece[..n], &mut line, len, numbers, base, sup) {
+            Ok(kept) => len = kept,
+            Err(bad) => return Ok(Err(bad)),
+        }
     }
     Ok(scene_text::finish(&line, len, numbers, base, sup))
 }

@@ -1,13 +1,10 @@
 -- What is read piece by piece is what the lines of the text say: by the bytes that are left. A line of which bytes are dropped is longer
 -- than any that says something.
-use Prim.Native.Nat.{ℕ, ◌<◌}
-use mathlib.Core.Bool.{Bool, true, false}
-use mathlib.Core.List.{List, [], ◌∷◌, ◌++◌, foldl, foldl-append}
-use mathlib.Core.Path.{◌≡◌, refl, sym, ap, ◌∙◌}
-use native.Mathlib.Omega.{arith}
-use lib.Dec.{eqb, ltb}
-use lib.ListN.{length, take, length-take}
-use lib.Seq.{take_all, take-nil, take-append-le, length-take-le}
+use Rattle.std.proofs.Common.{ℕ, ◌<◌, Bool, true, false, List, [], ◌∷◌, ◌++◌, ◌≡◌, refl, sym, ap, ◌∙◌, arith, eqb, ltb, length, take, length-take}
+use Rattle.std.proofs.Math.Seq.{take_all, take-nil, take-append-le, length-take-le}
+use Rattle.std.proofs.lemmas.List.Folds.{fold_stays}
+use Rattle.std.proofs.lemmas.List.Sums.{fold-append}
+use Rattle.std.specs.Prelude.{fold}
 use borrow.Author.Tests.{ltb-true, ltb-false}
 use Rattle.fields.specs.Ascii.{line_feed}
 use Rattle.fields.specs.Named.{pick}
@@ -20,7 +17,7 @@ use Rattle.scene_text.proofs.Kept.{last_line, stays}
 
 pub reads_pieces : ReadsPieces
 unfolding taken_all
-reads_pieces room r piece next = foldl-append (taken room) r piece next
+reads_pieces room r piece next = fold-append (taken room) r piece next
 
 -- the lines of an unfinished line and the text after it
 after : List ℕ → List ℕ → List (List ℕ)
@@ -43,9 +40,8 @@ after_byte [] c cs e = rw e
 after_byte (d ∷ line) c cs e = ap (with_byte d) (after_byte line c cs e)
 
 -- after a bad line no other is heard
-unheard : (s : Scene) (lines : List (List ℕ)) → foldl with_line (bad_line s) lines ≡ bad_line s
-unheard s [] = refl
-unheard s (line ∷ lines) = unheard s lines
+unheard : (s : Scene) (lines : List (List ℕ)) → fold with_line (bad_line s) lines ≡ bad_line s
+unheard s lines = fold_stays with_line (bad_line s) (λ line. refl) lines
 
 -- the first bytes that are kept stay those
 kept_more : (room : ℕ) (line : List ℕ) (c : ℕ) → take room (take room line ++ (c ∷ [])) ≡ take room (line ++ (c ∷ []))
@@ -77,10 +73,10 @@ module _ (room : ℕ) (enough : 35 < room) where
 
   -- what is read of the text from the scene s on, after the bytes of an unfinished line, is what its lines say
   abbrev Reads : Scene → List ℕ → List ℕ → Type 0
-  Reads s line text = finished (taken_all room (reading s (take room line)) text) ≡ foldl with_line (whole s) (after line text)
+  Reads s line text = finished (taken_all room (reading s (take room line)) text) ≡ fold with_line (whole s) (after line text)
 
   onward_read :
-      (r : Read) (cs : List ℕ) → ((s : Scene) → Reads s [] cs) → finished (taken_all room (read_on r) cs) ≡ foldl with_line r (lines_of cs)
+      (r : Read) (cs : List ℕ) → ((s : Scene) → Reads s [] cs) → finished (taken_all room (read_on r) cs) ≡ fold with_line r (lines_of cs)
   unfolding after
   onward_read (whole s) cs later = ap (λ l. finished (taken_all room (reading s l) cs)) (sym (take-nil room)) ∙ later s
   onward_read (bad_line s) cs later = ap finished (stays room s cs) ∙ sym (unheard s (lines_of cs))
@@ -94,15 +90,15 @@ module _ (room : ℕ) (enough : 35 < room) where
       go : (b : Bool) → eqb c line_feed ≡ b →
           finished (taken_all room (pick b (read_on (heard s (line_of (take room line))))
           (reading s (take room (take room line ++ (c ∷ []))))) cs)
-          ≡ foldl with_line (whole s) (after line (c ∷ cs))
+          ≡ fold with_line (whole s) (after line (c ∷ cs))
       go true e =
           ap (λ l. finished (taken_all room (read_on (heard s l)) cs)) (says_same line)
           ∙ onward_read (heard s (line_of line)) cs next
-          ∙ ap (foldl with_line (whole s)) (sym (after_feed line c cs e))
+          ∙ ap (fold with_line (whole s)) (sym (after_feed line c cs e))
       go false e =
           ap (λ l. finished (taken_all room (reading s l) cs)) (kept_more room line c)
           ∙ more
-          ∙ ap (foldl with_line (whole s)) (sym (after_byte line c cs e))
+          ∙ ap (fold with_line (whole s)) (sym (after_byte line c cs e))
 
   from_line : (s : Scene) (line text : List ℕ) → Reads s line text
   unfolding taken_all lines_of after
@@ -110,7 +106,7 @@ module _ (room : ℕ) (enough : 35 < room) where
   from_line s (c ∷ line) [] =
       last_line s (take room (c ∷ line)) (some_kept c line)
       ∙ ap (heard s) (says_same (c ∷ line))
-      ∙ ap (foldl with_line (whole s)) (sym (after_none c line))
+      ∙ ap (fold with_line (whole s)) (sym (after_none c line))
   from_line s line (c ∷ cs) = one_byte s line c cs (λ t. from_line t [] cs) (from_line s (line ++ (c ∷ [])) cs)
 
 pub reads_lines : ReadsLines

@@ -1,13 +1,11 @@
 -- A text that is read piece by piece: what a reader keeps between two pieces, and that it reads the lines of the whole text.
-use Rattle.std.specs.Prelude.{ℕ, ◌≤◌, ◌<◌, Bool, ◌≡◌, eqb, take}
-use mathlib.Core.List.{List, [], ◌∷◌, ◌++◌, foldl}
+use Rattle.std.specs.Prelude.{ℕ, ◌<◌, List, [], ◌∷◌, ◌++◌, ◌≡◌, eqb, take, fold, Result, Ok, Err}
 use Rattle.fields.specs.Ascii.{line_feed}
 use Rattle.fields.specs.Named.{pick}
 use Rattle.scene.specs.Scene.{Scene}
 use Rattle.scene_line.specs.Line.{line_of}
 use Rattle.scene_text.specs.Text.{Read, whole, bad_line, heard, read_from}
-use Rattle.scene_text.specs.declared.Taken.{Taken}
-use Rattle.scene_text.specs.declared.Taken.TheVariants.{Unfinished, Bad}
+use Rattle.scene_text.specs.declared.BadLine.{BadLine}
 
 -- the scene of the lines that have ended, and the first bytes of the line that has not; or the scene before a bad line
 pub data Reading : Type 0 where
@@ -26,7 +24,7 @@ taken room (reading s line) c =
 taken room (stopped s) c = stopped s
 
 unfoldable pub taken_all : ℕ → Reading → List ℕ → Reading
-taken_all room r cs = foldl (taken room) r cs
+taken_all room r cs = fold (taken room) r cs
 
 -- at the end of the text: the last line may lack its line feed
 abbrev pub finished : Reading → Read
@@ -46,14 +44,10 @@ ReadsPieces =
     (room : ℕ) (r : Reading) (piece next : List ℕ) → taken_all room r (piece ++ next) ≡ taken_all room (taken_all room r piece) next
 
 -- the answers of the code: what is kept is the front of the line's buffer
-abbrev pub reading_of : Taken → List ℕ → Scene → Reading
-reading_of (Unfinished n) line s = reading s (take n line)
-reading_of Bad line s = stopped s
+abbrev pub reading_of : Result ℕ BadLine → List ℕ → Scene → Reading
+reading_of (Ok n) line s = reading s (take n line)
+reading_of (Err bad) line s = stopped s
 
-abbrev pub read_of : Bool → Scene → Read
-read_of said s = pick said (whole s) (bad_line s)
-
--- what is kept fits the buffer
-abbrev pub Fits : ℕ → Taken → Type 0
-Fits room (Unfinished n) = n ≤ room
-Fits room Bad = Unit
+abbrev pub read_of : Result Unit BadLine → Scene → Read
+read_of (Ok all) s = whole s
+read_of (Err bad) s = bad_line s

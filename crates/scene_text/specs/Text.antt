@@ -1,10 +1,9 @@
 -- The scene of a text, by document 01 ("Proved and printed"): its lines in order, up to the first that is outside the form.
-use Rattle.std.specs.Prelude.{ℕ, eqb}
-use mathlib.Core.List.{List, [], ◌∷◌, foldl}
+use Rattle.std.specs.Prelude.{ℕ, eqb, List, [], ◌∷◌, fold, Option, Some, None}
 use Rattle.fields.specs.Ascii.{line_feed}
 use Rattle.fields.specs.Named.{pick}
 use Rattle.scene.specs.Scene.{Scene, applied}
-use Rattle.scene_line.specs.Line.{line_of, says}
+use Rattle.scene_line.specs.Line.{line_of}
 use Rattle.scene_line.specs.declared.Line.{Line}
 
 -- one byte more in front of the first line
@@ -23,8 +22,9 @@ pub data Read : Type 0 where
   bad_line : Scene → Read
 
 -- what a line sets; a line outside the form ends it
-abbrev pub heard : Scene → Line → Read
-heard s line = pick (says line) (whole (applied s line)) (bad_line s)
+abbrev pub heard : Scene → Option Line → Read
+heard s (Some line) = whole (applied s line)
+heard s None = bad_line s
 
 abbrev pub with_line : Read → List ℕ → Read
 with_line (whole s) cs = heard s (line_of cs)
@@ -32,4 +32,4 @@ with_line (bad_line s) cs = bad_line s
 
 -- a text read over a scene
 unfoldable pub read_from : Scene → List ℕ → Read
-read_from s text = foldl with_line (whole s) (lines_of text)
+read_from s text = fold with_line (whole s) (lines_of text)

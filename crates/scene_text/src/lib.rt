@@ -1,23 +1,21 @@
 // The lines of a scene, from a text that is read piece by piece (document 01, "Proved and printed").
 #![tactic(auto)]
 
-ghost use Rattle.std.specs.Prelude.{◌≤◌, min, ◌≡◌, length, take};
+ghost use Rattle.std.specs.Prelude.{◌≤◌, ◌≡◌, length, take, IfOk};
 ghost use Rattle.scene.specs.Scene.{scene};
 ghost use Rattle.scene_line.specs.Line.{line_of};
-ghost use Rattle.scene_text.specs.Reading.{reading, taken, taken_all, finished, reading_of, read_of, Fits};
+ghost use Rattle.scene_text.specs.Reading.{reading, taken, taken_all, finished, reading_of, read_of};
 ghost use Rattle.scene_text.specs.Text.{heard};
 
 // One byte more than the longest line that says something: a letter, two spaces and 32 digits.
 pub const LINE: usize = 36;
 
-// How many bytes of an unfinished line are kept, or that a line was bad.
+// A line that says nothing, which ends the scene.
 #[derive(Clone, Copy)]
-pub enum Taken {
-    Unfinished(usize),
-    Bad,
-}
+pub struct BadLine;
 
-// The bytes of a piece, after what is kept of an unfinished line in the front of `line`.
+// The bytes of a piece, after what is kept of an unfinished line in the front of `line`; returns how many bytes are kept then.
+#[tactic(auto, unfolding(crate::specs::Reading::taken_all))]
 pub fn take(
     piece: &[u8],
     line: &mut [u8],
@@ -25,36 +23,33 @@ pub fn take(
     numbers: &mut [u64],
     base: &mut [u8],
     sup: &mut [u8],
-) -> Taken
+) -> Result<usize, BadLine>
     ensures { reading_of result line.new (scene numbers.new base.new sup.new)
         ≡ taken_all (length line.old)
         (reading (scene numbers.old base.old sup.old) (take kept line.old))
         piece.now }
 {
-    let mut len = least(kept, line.len());
-    for i in 0..piece.len() {
-        let Taken::Unfinished(n) = take_byte(piece[i], line, len, numbers, base, sup) else {
-            return Taken::Bad;
-        };
-        len = n;
+    let mut len = kept.min(line.len());
+    for byte in piece {
+        len = take_byte(*byte, line, len, numbers, base, sup)?;
     }
-    Taken::Unfinished(len)
+    Ok(len)
 }
 
-// The line that no line feed has ended, if there is one: whether it said something.
+// The line that no line feed has ended, if there is one.
 pub fn finish(
     line: &[u8],
     kept: usize,
     numbers: &mut [u64],
     base: &mut [u8],
     sup: &mut [u8],
-) -> bool
+) -> Result<(), BadLine>
     ensures { read_of result (scene numbers.new base.new sup.new)
         ≡ finished (reading (scene numbers.old base.old sup.old) (take kept line.now)) }
 {
-    let len = least(kept, line.len());
+    let len = kept.min(line.len());
     if len == 0 {
-        return true;
+        return Ok(());
     }
     set(&line[..len], numbers, base, sup)
 }
@@ -67,38 +62,30 @@ fn take_byte(
     numbers: &mut [u64],
     base: &mut [u8],
     sup: &mut [u8],
-) -> Taken
+) -> Result<usize, BadLine>
     requires { len ≤ length line.old }
-    ensures fits { Fits (length line.new) result }
+    ensures fits { IfOk result (λ n. n ≤ length line.new) }
     ensures sup_after { reading_of result line.new (scene numbers.new base.new sup.new)
         ≡ taken (length line.old)
         (reading (scene numbers.old base.old sup.old) (take len line.old)) byte }
 {
     if byte == b'\n' {
-        if set(&line[..len], numbers, base, sup) {
-            return Taken::Unfinished(0);
-        }
-        return Taken::Bad;
+        set(&line[..len], numbers, base, sup)?;
+        return Ok(0);
     }
     if line.len() <= len {
-        return Taken::Unfinished(len);
+        return Ok(len);
     }
     line[len] = byte;
-    Taken::Unfinished(len + 1)
+    Ok(len + 1)
 }
 
-// Whether the line said something, which is then set.
-fn set(line: &[u8], numbers: &mut [u64], base: &mut [u8], sup: &mut [u8]) -> bool
+// What the line says is set.
+fn set(line: &[u8], numbers: &mut [u64], base: &mut [u8], sup: &mut [u8]) -> Result<(), BadLine>
     ensures { read_of result (scene numbers.new base.new sup.new)
         ≡ heard (scene numbers.old base.old sup.old) (line_of line.now) }
 {
-    let said = scene_line::line_of(line);
+    let said = scene_line::line_of(line).ok_or(BadLine)?;
     scene::apply(said, numbers, base, sup);
-    said.says()
-}
-
-fn least(a: usize, b: usize) -> usize
-    ensures { result ≡ min a b }
-{
-    if a < b { a } else { b }
+    Ok(())
 }

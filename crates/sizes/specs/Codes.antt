@@ -1,10 +1,8 @@
 -- The output size and the width of a VMID, with their codes in VTCR_EL2, by DDI 0487.
-use Rattle.std.specs.Prelude.{ℕ, ◌^◌, [], ◌∷◌, eqb}
+use Rattle.std.specs.Prelude.{Option, Some, None, ℕ, ◌^◌, [], ◌∷◌, eqb}
 use Rattle.fields.specs.Named.{pick, named}
 use Rattle.sizes.specs.declared.PaSize.TheVariants.{B32, B36, B40, B42, B44, B48, B52}
 use Rattle.sizes.specs.declared.PaSize.{PaSize}
-use Rattle.sizes.specs.declared.SizeNamed.TheVariants.{Size, Reserved as NoSize}
-use Rattle.sizes.specs.declared.SizeNamed.{SizeNamed}
 use Rattle.sizes.specs.declared.VmidBits.TheVariants.{B8, B16}
 use Rattle.sizes.specs.declared.VmidBits.{VmidBits}
 
@@ -18,8 +16,8 @@ ps B44 = 0b100
 ps B48 = 0b101
 ps B52 = 0b110
 
-abbrev pub size_named : ℕ → SizeNamed
-size_named = named ps (B32 ∷ B36 ∷ B40 ∷ B42 ∷ B44 ∷ B48 ∷ B52 ∷ []) Size NoSize
+abbrev pub size_named : ℕ → Option PaSize
+size_named = named ps (B32 ∷ B36 ∷ B40 ∷ B42 ∷ B44 ∷ B48 ∷ B52 ∷ []) Some None
 
 -- VS, bit 19
 abbrev pub vs : VmidBits → ℕ

@@ -5,7 +5,7 @@ ghost use Rattle.std.specs.Prelude.{◌≡◌};
 ghost use Rattle.sizes.specs.Codes.{ps, size_named, vs, vmid_bits_named, vmids};
 
 // The output address size in bits.
-#[derive(Clone, Copy)]
+#[derive(Clone, Copy, PartialEq, Eq)]
 pub enum PaSize {
     B32,
     B36,
@@ -16,14 +16,8 @@ pub enum PaSize {
     B52,
 }
 
-#[derive(Clone, Copy)]
-pub enum SizeNamed {
-    Size(PaSize),
-    Reserved,
-}
-
 // The width of a VMID. VTCR_EL2 has it and the tables do not, so it is no part of the regime.
-#[derive(Clone, Copy)]
+#[derive(Clone, Copy, PartialEq, Eq)]
 pub enum VmidBits {
     B8,
     B16,
@@ -44,18 +38,18 @@ impl PaSize {
         }
     }
 
-    pub fn from_ps(v: u64) -> SizeNamed
+    pub fn from_ps(v: u64) -> Option<PaSize>
         ensures { result ≡ size_named v }
     {
         match v {
-            0b000 => SizeNamed::Size(PaSize::B32),
-            0b001 => SizeNamed::Size(PaSize::B36),
-            0b010 => SizeNamed::Size(PaSize::B40),
-            0b011 => SizeNamed::Size(PaSize::B42),
-            0b100 => SizeNamed::Size(PaSize::B44),
-            0b101 => SizeNamed::Size(PaSize::B48),
-            0b110 => SizeNamed::Size(PaSize::B52),
-            _ => SizeNamed::Reserved,
+            0b000 => Some(PaSize::B32),
+            0b001 => Some(PaSize::B36),
+            0b010 => Some(PaSize::B40),
+            0b011 => Some(PaSize::B42),
+            0b100 => Some(PaSize::B44),
+            0b101 => Some(PaSize::B48),
+            0b110 => Some(PaSize::B52),
+            _ => None,
         }
     }
 }

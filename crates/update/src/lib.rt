@@ -7,27 +7,23 @@ ghost use Rattle.refusal.specs.Outcome.{outcome_of};
 ghost use Rattle.update.specs.Step.{step_count, place_of, stored_by, Stepping};
 
 use layout::Layout;
-use refusal::{Refusal, Verdict};
+use refusal::Refusal;
 
 // Every word is zeroed, then every word is stored.
 const STEPS: usize = 2 * Layout::ARENA_LEN;
 
 // Rows 1 to 14, then 26, come before the store, which is the only one.
-pub fn step(arena: &mut [u64], base: &[u8], sup: &[u8], l: Layout, n: u64) -> Verdict
+#[tactic(auto, using(refusal::proofs::Sequence::in_turn), unfolding(crate::specs::Step::step_rows, crate::specs::Step::row26, refusal::specs::Table::first))]
+pub fn step(arena: &mut [u64], base: &[u8], sup: &[u8], l: Layout, n: u64) -> Result<(), Refusal>
     ensures { Stepping l base.now sup.now n arena.old (outcome_of result) arena.new }
 {
-    let verdict = guard::guard(arena, base, sup, l);
-    let Verdict::Accepted = verdict else {
-        return verdict;
-    };
+    guard::guard(arena, base, sup, l)?;
     if STEPS as u64 <= n {
-        return Verdict::Refused(Refusal::StepPastLast);
+        return Err(Refusal::StepPastLast);
     }
     let number = n as usize;
-    let word = stored_by(base, sup, l, number);
-    let place = place_of(number);
-    arena[place] = word;
-    Verdict::Accepted
+    arena[place_of(number)] = stored_by(base, sup, l, number);
+    Ok(())
 }
 
 // Upwards while words are zeroed, then downwards, so that a table is stored before the word that names it.

@@ -1,4 +1,5 @@
--- The emitted word of a device has no row: it is read as what is wanted. And how far an address lies from a window's base.
+-- The emitted word of a device has no row: it is read as what is wanted.
+use Rattle.std.specs.Prelude.{Some, None}
 use Prim.Native.Nat.{ℕ, ◌+◌, ◌-◌, ◌≤◌}
 use mathlib.Core.Bool.{Bool, true, false}
 use mathlib.Core.List.{[]}
@@ -9,7 +10,6 @@ use borrow.Author.Tests.{ltb-true, ltb-false, lt-ltb, le-ltb}
 use Rattle.arena.specs.Word.{device_to}
 use Rattle.decode.proofs.Emitted.{emitted_decodes}
 use Rattle.decode.specs.Decoded.{decoded_device}
-use Rattle.decode.specs.declared.DecodedBlock.TheVariants.{Device, Nothing}
 use Rattle.desc.specs.Descriptor.{block_address}
 use Rattle.fields.specs.Named.{pick}
 use Rattle.layout.specs.declared.Window.{Window}
@@ -19,7 +19,7 @@ use Rattle.verify_rows.specs.Word.{block_row}
 
 device_read :
     (inside : Bool) (x : ℕ) →
-    decoded_device (pick inside (device_to x) 0) ≡ pick inside (Device (record { pa = block_address x; xn = true })) Nothing
+    decoded_device (pick inside (device_to x) 0) ≡ pick inside (Some (record { pa = block_address x; xn = true })) None
 device_read true x = emitted_decodes.device (block_address x) (held_block x)
 device_read false x = refl
 
@@ -27,11 +27,3 @@ pub device_none :
     (t d j : ℕ) (w : Window) →
     d ≡ pick (window_holds w (slot_address w j)) (device_to (slot_address w j)) 0 → block_row t j d (wanted_block w j) ≡ []
 device_none t d j w q = no_block_row t j d _ (ap decoded_device q ∙ device_read (window_holds w (slot_address w j)) (slot_address w j))
-
--- what lies within a length of a base is less than that far from it
-pub distance : (a base len : ℕ) → base ≤ a → ltb (a - base) len ≡ ltb a (base + len)
-distance a base len h = go (ltb a (base + len)) refl
-  where
-    go : (t : Bool) → ltb a (base + len) ≡ t → ltb (a - base) len ≡ t
-    go true e = lt-ltb (a - base) len (omega (arith, ltb-true a (base + len) e))
-    go false e = le-ltb (a - base) len (omega (arith, ltb-false a (base + len) e))

@@ -1,106 +1,83 @@
-// Verification of tables 4 and 5 (hv-s2's arm64.rs, `verify_encoding`): each leaf is the one that the maps want.
+// Verification of tables 4 and 5 (hv-s2's arm64.rs, `verify_encoding`): each leaf is the one that the maps want. Frames that have the
+// emitted words are passed over first, since nothing is decoded there.
 #![tactic(auto)]
 
-ghost use Rattle.std.specs.Prelude.{ℕ, ◌+◌, ◌*◌, ◌≤◌, ◌<◌, [], ◌≡◌};
-ghost use Rattle.layout.specs.Size.{entries, block};
+ghost use Rattle.std.specs.Prelude.{◌+◌, ◌*◌, ◌≡◌, [], IsTrue};
+ghost use Rattle.layout.specs.Size.{block};
 ghost use Rattle.layout.specs.Window.{l2_slot};
 ghost use Rattle.refusal.specs.Outcome.{outcome_of};
-ghost use Rattle.refusal.specs.Table.{first, each};
-ghost use Rattle.verify_rows.specs.Verifying.{indices, base_row, super_row};
+ghost use Rattle.refusal.specs.Table.{first};
+ghost use Rattle.verify_rows.specs.Verifying.{base_row, super_row, page_rows, super_rows};
 
 use layout::Layout;
-use refusal::Verdict;
+use refusal::Refusal;
+use verify_word::Word;
 
 // Table 4.
-pub fn verify_base(arena: &[u64], base: &[u8], pa: u64) -> Verdict
-    ensures { outcome_of result ≡ first (each (base_row arena.now base.now pa) indices) }
+pub fn verify_base(arena: &[u64], base: &[u8], l: Layout) -> Result<(), Refusal>
+    ensures { outcome_of result ≡ first (page_rows arena.now base.now l) }
 {
-    for m in past_pages(arena, base, pa)..Layout::ENTRIES {
-        let verdict = base_frame(arena, base, pa, m);
-        let Verdict::Accepted = verdict else {
-            return verdict;
-        };
-    }
-    Verdict::Accepted
+    verify_rows::each_past(
+        Layout::ENTRIES as u32,
+        |m| has_page(arena, base, l, m),
+        |m| base_frame(arena, base, l, m),
+    )
 }
 
-// How many words, from the first on, are the emitted ones. A loop of its own, since it decodes nothing.
-fn past_pages(arena: &[u64], base: &[u8], pa: u64) -> usize
-    ensures { (result ≤ entries) × ((k : ℕ) → k < result → base_row arena.now base.now pa k ≡ []) }
+// The emitted word is read as what is wanted.
+#[tactic(auto, using(crate::proofs::Emitted::page_none), unfolding(verify_rows::specs::Verifying::base_row))]
+fn has_page(arena: &[u64], base: &[u8], l: Layout, m: u32) -> bool
+    ensures { IsTrue result → base_row arena.now base.now l.data_pa_base m ≡ [] }
 {
-    let from = Layout::first_word(4);
-    // A short arena is read word by word.
-    if arena.len() < from + Layout::ENTRIES {
-        return 0;
-    }
-    for m in 0..Layout::ENTRIES {
-        let d = arena[from + m];
-        let entry = map_entries::entry_at(base, m);
-        if d != arena::page_word(pa, m as u32, entry) {
-            return m;
-        }
-    }
-    Layout::ENTRIES
+    let entry = map_entries::entry_at(base, m as usize);
+    verify_read::table_word(arena, 4, m) == arena::page_word(l.data_pa_base, m, entry)
 }
 
-fn base_frame(arena: &[u64], base: &[u8], pa: u64, m: usize) -> Verdict
-    requires { m < entries }
-    ensures { outcome_of result ≡ first (base_row arena.now base.now pa m) }
+#[tactic(auto, unfolding(verify_rows::specs::Verifying::base_row))]
+fn base_frame(arena: &[u64], base: &[u8], l: Layout, m: u32) -> Result<(), Refusal>
+    ensures { outcome_of result ≡ first (base_row arena.now base.now l.data_pa_base m) }
 {
-    let index = m as u64;
-    let d = verify_read::table_word(arena, 4, m as u32);
-    let entry = map_entries::entry_at(base, m);
-    let want = verify_read::wanted_leaf(entry, arena::page_address(pa, m as u32), false);
-    verify_word::leaf(4, index, d, index, verify_read::read_page(d), want)
+    let word = Word::at(arena, 4, m);
+    let entry = map_entries::entry_at(base, m as usize);
+    let want = verify_read::wanted_leaf(entry, arena::page_address(l.data_pa_base, m), false);
+    word.leaf(m, verify_read::read_page(word.desc), want)
 }
 
 // Table 5. Supers at or past sup_frames are looked for like the others: row 14 is not tested here.
-pub fn verify_super(arena: &[u64], sup: &[u8], ipa: u64, pa: u64, exempt: bool) -> Verdict
-    ensures { outcome_of result ≡ first (each (super_row arena.now sup.now ipa pa exempt) indices) }
+pub fn verify_super(arena: &[u64], sup: &[u8], l: Layout) -> Result<(), Refusal>
+    ensures { outcome_of result ≡ first (super_rows arena.now sup.now l) }
 {
-    for m in past_blocks(arena, sup, ipa, pa, exempt)..Layout::ENTRIES {
-        let verdict = super_frame(arena, sup, ipa, pa, exempt, m);
-        let Verdict::Accepted = verdict else {
-            return verdict;
-        };
-    }
-    Verdict::Accepted
+    verify_rows::each_past(
+        Layout::ENTRIES as u32,
+        |m| has_block(arena, sup, l, m),
+        |m| super_frame(arena, sup, l, m),
+    )
 }
 
-// How many supers, from the first on, have the emitted words: the same as `past_pages`.
-fn past_blocks(arena: &[u64], sup: &[u8], ipa: u64, pa: u64, exempt: bool) -> usize
-    ensures { (result ≤ entries) × ((k : ℕ) → k < result → super_row arena.now sup.now ipa pa exempt k ≡ []) }
+#[tactic(auto, using(crate::proofs::Emitted::block_none), unfolding(verify_rows::specs::Verifying::super_row))]
+fn has_block(arena: &[u64], sup: &[u8], l: Layout, m: u32) -> bool
+    ensures { IsTrue result → super_row arena.now sup.now l.sup_ipa_base l.sup_pa_base l.sup_wx_exempt m ≡ [] }
 {
-    let from = Layout::first_word(5);
-    if arena.len() < from + Layout::ENTRIES {
-        return 0;
-    }
-    for m in 0..Layout::ENTRIES {
-        let at = from + super_index(ipa, m) as usize;
-        let d = arena[at];
-        let entry = map_entries::entry_at(sup, m);
-        if d != arena::block_word(pa, m as u32, exempt, entry) {
-            return m;
-        }
-    }
-    Layout::ENTRIES
+    let entry = map_entries::entry_at(sup, m as usize);
+    let d = verify_read::table_word(arena, 5, super_index(l.sup_ipa_base, m));
+    d == arena::block_word(l.sup_pa_base, m, l.sup_wx_exempt, entry)
 }
 
-fn super_frame(arena: &[u64], sup: &[u8], ipa: u64, pa: u64, exempt: bool, m: usize) -> Verdict
-    requires { m < entries }
-    ensures { outcome_of result ≡ first (super_row arena.now sup.now ipa pa exempt m) }
+#[tactic(auto, unfolding(verify_rows::specs::Verifying::super_row))]
+fn super_frame(arena: &[u64], sup: &[u8], l: Layout, m: u32) -> Result<(), Refusal>
+    ensures { outcome_of result
+        ≡ first (super_row arena.now sup.now l.sup_ipa_base l.sup_pa_base l.sup_wx_exempt m) }
 {
-    let index = super_index(ipa, m);
-    let d = verify_read::table_word(arena, 5, index as u32);
-    let entry = map_entries::entry_at(sup, m);
-    let want = verify_read::wanted_leaf(entry, arena::block_address(pa, m as u32), exempt);
-    verify_word::leaf(5, index, d, m as u64, verify_read::read_block(d), want)
+    let word = Word::at(arena, 5, super_index(l.sup_ipa_base, m));
+    let entry = map_entries::entry_at(sup, m as usize);
+    let pa = arena::block_address(l.sup_pa_base, m);
+    let want = verify_read::wanted_leaf(entry, pa, l.sup_wx_exempt);
+    word.leaf(m, verify_read::read_block(word.desc), want)
 }
 
 // A super stands at its own slot, not at its frame number.
-fn super_index(ipa: u64, m: usize) -> u64
-    requires { m < entries }
+fn super_index(ipa: u64, m: u32) -> u32
     ensures { result ≡ l2_slot (ipa + m * block) }
 {
-    (ipa / Layout::BLOCK_SIZE + m as u64) % Layout::INDICES
+    ((ipa / Layout::BLOCK_SIZE + m as u64) % Layout::INDICES) as u32
 }

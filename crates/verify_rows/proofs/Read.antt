@@ -1,4 +1,7 @@
 -- What is read of the words that encoding leaves is what verification wants; and where it is, no row applies.
+use Rattle.std.specs.Prelude.{Some, None, Option}
+use Rattle.decode.specs.declared.DecodedDevice.{DecodedDevice}
+use Rattle.decode.specs.declared.Decoded.{Decoded}
 use Prim.Native.Nat.{ℕ}
 use mathlib.Core.Bool.{Bool, true, false, not, ◌&&◌, and-false}
 use mathlib.Core.List.{List, [], ◌∷◌}
@@ -10,11 +13,6 @@ use Rattle.arena.specs.Word.{page_to, block_to, leaf_for}
 use Rattle.decode.proofs.Emitted.{emitted_decodes}
 use Rattle.decode.specs.Decoded.{decoded_table, decoded_device}
 use Rattle.decode.specs.Emitted.{Output, leaf_with}
-use Rattle.decode.specs.declared.DecodedBlock.TheVariants.{Device, Nothing as NoBlock}
-use Rattle.decode.specs.declared.DecodedBlock.{DecodedBlock}
-use Rattle.decode.specs.declared.DecodedLeaf.TheVariants.{Leaf, Nothing as NoLeaf}
-use Rattle.decode.specs.declared.DecodedLeaf.{DecodedLeaf}
-use Rattle.decode.specs.declared.DecodedTable.TheVariants.{At}
 use Rattle.desc.specs.Descriptor.{page_address, block_address}
 use Rattle.desc.specs.WordFields.{read_execute}
 use Rattle.desc.specs.Words.{leaf_access_xn}
@@ -36,16 +34,16 @@ held_block x = record { below = omega arith; aligned = omega arith }
 -- the word of an entry is read as the leaf that the entry wants
 
 read :
-    (decode : ℕ → DecodedLeaf) (word : Perm → ℕ) (leaf : Perm → DecodedLeaf) →
+    (decode : ℕ → Option Decoded) (word : Perm → ℕ) (leaf : Perm → Option Decoded) →
     ((p : Perm) → decode (word p) ≡ leaf p) →
-    decode 0 ≡ NoLeaf →
-    (entry : ℕ) → decode (leaf_for entry word) ≡ named perm_code (Ro ∷ Rw ∷ Rx ∷ []) leaf NoLeaf entry
+    decode 0 ≡ None →
+    (entry : ℕ) → decode (leaf_for entry word) ≡ named perm_code (Ro ∷ Rw ∷ Rx ∷ []) leaf None entry
 read decode word leaf some none entry = go (eqb entry 1) (eqb entry 2) (eqb entry 3)
   where
     go :
         (a b c : Bool) →
         decode (pick a (word Ro) (pick b (word Rw) (pick c (word Rx) 0)))
-        ≡ pick a (leaf Ro) (pick b (leaf Rw) (pick c (leaf Rx) NoLeaf))
+        ≡ pick a (leaf Ro) (pick b (leaf Rw) (pick c (leaf Rx) None))
     go true b c = some Ro
     go false true c = some Rw
     go false false true = some Rx
@@ -65,24 +63,24 @@ block_read entry x exempt =
 
 -- where what is found is what is wanted, no row applies
 
-leaf_itself : (x : DecodedLeaf) → same_leaf x x ≡ true
-leaf_itself (Leaf a) =
+leaf_itself : (x : Option Decoded) → same_leaf x x ≡ true
+leaf_itself (Some a) =
     simp (eq-eqb a.pa _ refl, eq-eqb (perm_code a.perm) _ refl, eq-eqb (bit a.xn) _ refl)
-leaf_itself NoLeaf = refl
+leaf_itself None = refl
 
-block_itself : (x : DecodedBlock) → same_block x x ≡ true
-block_itself (Device a) = simp (eq-eqb a.pa _ refl, eq-eqb (bit a.xn) _ refl)
-block_itself NoBlock = refl
+block_itself : (x : Option DecodedDevice) → same_block x x ≡ true
+block_itself (Some a) = simp (eq-eqb a.pa _ refl, eq-eqb (bit a.xn) _ refl)
+block_itself None = refl
 
-pub no_leaf_row : (t j d m : ℕ) (found want : DecodedLeaf) → found ≡ want → leaf_row t j d m found want ≡ []
+pub no_leaf_row : (t j d m : ℕ) (found want : Option Decoded) → found ≡ want → leaf_row t j d m found want ≡ []
 unfolding leaf_row
 no_leaf_row t j d m found want e = rw (e, leaf_itself want)
 
-pub no_block_row : (t j d : ℕ) (want : DecodedBlock) → decoded_device d ≡ want → block_row t j d want ≡ []
+pub no_block_row : (t j d : ℕ) (want : Option DecodedDevice) → decoded_device d ≡ want → block_row t j d want ≡ []
 unfolding block_row
 no_block_row t j d want e = rw (e, block_itself want)
 
-pub no_row18 : (t j d pa : ℕ) → decoded_table d ≡ At (page_address pa) → row18 t j d pa ≡ []
+pub no_row18 : (t j d pa : ℕ) → decoded_table d ≡ Some (page_address pa) → row18 t j d pa ≡ []
 unfolding row18
 no_row18 t j d pa e = rw (e, eq-eqb (page_address pa) _ refl)
 

@@ -1,9 +1,9 @@
 -- Verification, by document 01: rows 1 to 12, then what is wrong in the words of the arena, in the order in which they are read.
+use Rattle.std.specs.Prelude.{Some, None, Option}
+use Rattle.decode.specs.declared.DecodedDevice.{DecodedDevice}
 use Rattle.std.specs.Prelude.{ℕ, zero, suc, ◌+◌, ◌*◌, ◌/◌, Bool, true, false, not, ◌&&◌, ◌||◌, List, [], ◌∷◌, eqb, leb, ltb, get_or}
 use Rattle.areas.specs.Area.{live_areas_of, area_slot, area_has}
 use Rattle.areas.specs.declared.Area.{Area}
-use Rattle.decode.specs.declared.DecodedBlock.TheVariants.{Device, Nothing}
-use Rattle.decode.specs.declared.DecodedBlock.{DecodedBlock}
 use Rattle.desc.specs.Descriptor.{page_address, block_address}
 use Rattle.fields.specs.Named.{pick}
 use Rattle.layout.specs.Size.{entries, page, block, l1_span, first_word}
@@ -92,9 +92,9 @@ abbrev pub window_holds : Window → ℕ → Bool
 window_holds w a = leb w.ipa a && ltb a (w.ipa + w.span)
 
 -- what a device window wants there: itself, execute never, if it contains the address
-abbrev pub wanted_block : Window → ℕ → DecodedBlock
+abbrev pub wanted_block : Window → ℕ → Option DecodedDevice
 wanted_block w j =
-    let a = slot_address w j in pick (window_holds w a) (Device (record { pa = block_address a; xn = true })) Nothing
+    let a = slot_address w j in pick (window_holds w a) (Some (record { pa = block_address a; xn = true })) None
 
 -- device slot j: index j of the device's table
 unfoldable pub device_row : List ℕ → ℕ → Window → ℕ → List Row

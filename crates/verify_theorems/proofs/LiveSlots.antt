@@ -1,4 +1,5 @@
 -- `live_slots_gone`: the slots that were gathered are those of the areas that are present.
+use Rattle.std.specs.Prelude.{Some, None, Option}
 use Prim.Native.Nat.{ℕ, suc, ◌+◌, ◌≤◌}
 use mathlib.Core.Bool.{Bool, true, false, not, ◌&&◌, ◌||◌, or-false}
 use mathlib.Core.List.{List, [], ◌∷◌, ◌++◌, map, foldl, flat_map, append-nil}
@@ -11,8 +12,6 @@ use Rattle.areas.specs.Area.{area, data_area, super_area, device_area, live_area
 use Rattle.areas.specs.declared.Area.{Area}
 use Rattle.fields.specs.Named.{pick}
 use Rattle.layout.specs.Window.{image_window, l2_slot}
-use Rattle.layout.specs.declared.GuestImage.TheVariants.{At, Absent}
-use Rattle.layout.specs.declared.GuestImage.{GuestImage}
 use Rattle.layout.specs.declared.Layout.{Layout}
 use Rattle.refusal.specs.Table.{Row, given, each}
 use Rattle.verify_rows.specs.Verifying.{word, indices, window_at, live_at, live_row, other_row}
@@ -44,9 +43,9 @@ entry_if present a = pick present (live_entry a.ipa a.table ∷ []) []
 abbrev entry_of : Area → List LiveEntry
 entry_of a = entry_if a.present a
 
-of_image : (image : GuestImage) (table : ℕ) → image_entry image table ≡ entry_of (area (image_window image) table)
-of_image (At pa) table = refl
-of_image Absent table = refl
+of_image : (image : Option ℕ) (table : ℕ) → image_entry image table ≡ entry_of (area (image_window image) table)
+of_image (Some pa) table = refl
+of_image None table = refl
 
 in_order : (l : Layout) → live_entries l ≡ flat_map entry_of (live_areas_of l)
 unfolding flat_map
@@ -122,7 +121,7 @@ table_2 : (arena : List ℕ) (l : Layout) → image_rows_before arena l.guest_im
 unfolding image_rows flat_map
 table_2 arena l = go l.guest_image_pa refl
   where
-    at : GuestImage → ℕ → Bool
+    at : Option ℕ → ℕ → Bool
     at image i = (image_window image).present && eqb (l2_slot (image_window image).ipa) i
 
     rows :
@@ -131,14 +130,14 @@ table_2 arena l = go l.guest_image_pa refl
     rows live same = others arena l 2 live same ∙ sym (append-nil (other_rows arena l 2))
 
     go :
-        (image : GuestImage) → l.guest_image_pa ≡ image →
+        (image : Option ℕ) → l.guest_image_pa ≡ image →
         image_rows_before arena image
         ≡ given (image_window image).present (row19 (word arena 2 (l2_slot (image_window image).ipa)) (image_window image).pa)
         ++ (other_rows arena l 2 ++ [])
-    go (At pa) e =
+    go (Some pa) e =
         ap (λ (other : List Row). row19 (word arena 2 (l2_slot pa)) pa ++ other)
-        (rows (l2_slot pa ∷ []) (λ i. or-false (eqb (l2_slot pa) i) ∙ sym (ap (λ (g : GuestImage). at g i) e)))
-    go Absent e = rows [] (λ i. sym (ap (λ (g : GuestImage). at g i) e))
+        (rows (l2_slot pa ∷ []) (λ i. or-false (eqb (l2_slot pa) i) ∙ sym (ap (λ (g : Option ℕ). at g i) e)))
+    go None e = rows [] (λ i. sym (ap (λ (g : Option ℕ). at g i) e))
 
 table_3 : (arena : List ℕ) (l : Layout) → data_rows_before arena (l2_slot l.data_ipa_base) l.l3_data_pa ≡ data_rows arena l
 unfolding data_rows flat_map

@@ -1,4 +1,7 @@
 -- Where no row applies to a word, what is found there is what is wanted.
+use Rattle.std.specs.Prelude.{Some, None, Option}
+use Rattle.decode.specs.declared.DecodedDevice.{DecodedDevice}
+use Rattle.decode.specs.declared.Decoded.{Decoded}
 use Prim.Native.Nat.{ℕ}
 use mathlib.Core.Bool.{Bool, true, false, not, ◌&&◌, ◌||◌}
 use mathlib.Core.List.{[], ◌∷◌}
@@ -8,12 +11,6 @@ use lib.Dec.{eqb}
 use borrow.Author.Tests.{eqb-true, not-false}
 use Rattle.decode.specs.Decoded.{decoded_table, decoded_device}
 use Rattle.decode.specs.Emitted.{leaf_with}
-use Rattle.decode.specs.declared.DecodedBlock.TheVariants.{Device, Nothing as NoBlock}
-use Rattle.decode.specs.declared.DecodedBlock.{DecodedBlock}
-use Rattle.decode.specs.declared.DecodedLeaf.TheVariants.{Leaf, Nothing as NoLeaf}
-use Rattle.decode.specs.declared.DecodedLeaf.{DecodedLeaf}
-use Rattle.decode.specs.declared.DecodedTable.TheVariants.{At, Nothing as NoTable}
-use Rattle.decode.specs.declared.DecodedTable.{DecodedTable}
 use Rattle.desc.specs.Descriptor.{page_address, block_address}
 use Rattle.desc.specs.WordFields.{read_execute}
 use Rattle.fields.specs.Numbers.{bit}
@@ -49,41 +46,41 @@ same_bit true false e = absurd (omega (arith, e))
 same_bit false true e = absurd (omega (arith, e))
 same_bit false false e = refl
 
-leaf_told : (x y : DecodedLeaf) → same_leaf x y ≡ true → x ≡ y
-leaf_told (Leaf a) (Leaf b) e =
+leaf_told : (x y : Option Decoded) → same_leaf x y ≡ true → x ≡ y
+leaf_told (Some a) (Some b) e =
     let outer = halves _ (eqb (bit a.xn) (bit b.xn)) e in
     let inner = halves (eqb a.pa b.pa) _ outer.0 in
     let never = same_bit a.xn b.xn (eqb-true _ _ outer.1) in
     let access = same_perm a.perm b.perm (eqb-true _ _ inner.1) in
-    ap (λ (x : ℕ). Leaf (record { pa = x; perm = a.perm; xn = a.xn })) (eqb-true _ _ inner.0)
-    ∙ ap (λ (x : Perm). Leaf (record { pa = b.pa; perm = x; xn = a.xn })) access
-    ∙ ap (λ (x : Bool). Leaf (record { pa = b.pa; perm = b.perm; xn = x })) never
-leaf_told (Leaf a) NoLeaf e = absurd (let z : ◌≡◌ {A = ℕ} 0 1 = cc in omega arith)
-leaf_told NoLeaf (Leaf b) e = absurd (let z : ◌≡◌ {A = ℕ} 0 1 = cc in omega arith)
-leaf_told NoLeaf NoLeaf e = refl
+    ap (λ (x : ℕ). Some (record { pa = x; perm = a.perm; xn = a.xn })) (eqb-true _ _ inner.0)
+    ∙ ap (λ (x : Perm). Some (record { pa = b.pa; perm = x; xn = a.xn })) access
+    ∙ ap (λ (x : Bool). Some (record { pa = b.pa; perm = b.perm; xn = x })) never
+leaf_told (Some a) None e = absurd (let z : ◌≡◌ {A = ℕ} 0 1 = cc in omega arith)
+leaf_told None (Some b) e = absurd (let z : ◌≡◌ {A = ℕ} 0 1 = cc in omega arith)
+leaf_told None None e = refl
 
-block_told : (x y : DecodedBlock) → same_block x y ≡ true → x ≡ y
-block_told (Device a) (Device b) e =
+block_told : (x y : Option DecodedDevice) → same_block x y ≡ true → x ≡ y
+block_told (Some a) (Some b) e =
     let both = halves (eqb a.pa b.pa) _ e in
-    ap (λ (x : ℕ). Device (record { pa = x; xn = a.xn })) (eqb-true _ _ both.0)
-    ∙ ap (λ (x : Bool). Device (record { pa = b.pa; xn = x })) (same_bit a.xn b.xn (eqb-true _ _ both.1))
-block_told (Device a) NoBlock e = absurd (let z : ◌≡◌ {A = ℕ} 0 1 = cc in omega arith)
-block_told NoBlock (Device b) e = absurd (let z : ◌≡◌ {A = ℕ} 0 1 = cc in omega arith)
-block_told NoBlock NoBlock e = refl
+    ap (λ (x : ℕ). Some (record { pa = x; xn = a.xn })) (eqb-true _ _ both.0)
+    ∙ ap (λ (x : Bool). Some (record { pa = b.pa; xn = x })) (same_bit a.xn b.xn (eqb-true _ _ both.1))
+block_told (Some a) None e = absurd (let z : ◌≡◌ {A = ℕ} 0 1 = cc in omega arith)
+block_told None (Some b) e = absurd (let z : ◌≡◌ {A = ℕ} 0 1 = cc in omega arith)
+block_told None None e = refl
 
-table_told : (x : DecodedTable) (pa : ℕ) → same_table x pa ≡ true → x ≡ At pa
-table_told (At a) pa e = ap At (eqb-true a pa e)
-table_told NoTable pa e = absurd (let z : ◌≡◌ {A = ℕ} 0 1 = cc in omega arith)
+table_told : (x : Option ℕ) (pa : ℕ) → same_table x pa ≡ true → x ≡ Some pa
+table_told (Some a) pa e = ap Some (eqb-true a pa e)
+table_told None pa e = absurd (let z : ◌≡◌ {A = ℕ} 0 1 = cc in omega arith)
 
-pub leaf_row_told : (t j d m : ℕ) (found want : DecodedLeaf) → leaf_row t j d m found want ≡ [] → found ≡ want
+pub leaf_row_told : (t j d m : ℕ) (found want : Option Decoded) → leaf_row t j d m found want ≡ [] → found ≡ want
 unfolding leaf_row
 leaf_row_told t j d m found want e = leaf_told found want (not-false (same_leaf found want) (only _ _ e))
 
-pub block_row_told : (t j d : ℕ) (want : DecodedBlock) → block_row t j d want ≡ [] → decoded_device d ≡ want
+pub block_row_told : (t j d : ℕ) (want : Option DecodedDevice) → block_row t j d want ≡ [] → decoded_device d ≡ want
 unfolding block_row
 block_row_told t j d want e = block_told (decoded_device d) want (not-false (same_block (decoded_device d) want) (only _ _ e))
 
-pub row18_told : (t j d pa : ℕ) → row18 t j d pa ≡ [] → decoded_table d ≡ At (page_address pa)
+pub row18_told : (t j d pa : ℕ) → row18 t j d pa ≡ [] → decoded_table d ≡ Some (page_address pa)
 unfolding row18
 row18_told t j d pa e =
     table_told (decoded_table d) (page_address pa) (not-false (same_table (decoded_table d) (page_address pa)) (only _ _ e))

@@ -1,4 +1,5 @@
 -- Verification accepts what is read alike: each row's test is false, since each word is read as what is wanted.
+use Rattle.std.specs.Prelude.{Some}
 use Prim.Native.Nat.{ℕ, ◌<◌}
 use mathlib.Core.Bool.{false}
 use mathlib.Core.List.{List, [], flat_map}
@@ -14,7 +15,6 @@ use Rattle.arena.proofs.At.{l1_at, image_at as imageWordAt, data_at as dataWordA
 use Rattle.arena.specs.Word.{table_to, image_to}
 use Rattle.decode.proofs.Emitted.{emitted_decodes}
 use Rattle.decode.specs.Decoded.{decoded_table, decoded_device}
-use Rattle.decode.specs.declared.DecodedTable.TheVariants.{At}
 use Rattle.desc.specs.Descriptor.{page_address, block_address}
 use Rattle.fields.specs.Named.{pick}
 use Rattle.layout.specs.Size.{entries, board_limit, arena_length}
@@ -36,7 +36,7 @@ use Rattle.verify_theorems.proofs.Areas.{Named, l1_word, l1_live, l1_none}
 use Rattle.verify_theorems.proofs.Words.{page_wanted, super_wanted, device_6}
 
 -- a word that names a table is read so
-names : (d pa : ℕ) → d ≡ table_to pa → decoded_table d ≡ At (page_address pa)
+names : (d pa : ℕ) → d ≡ table_to pa → decoded_table d ≡ Some (page_address pa)
 names d pa e = ap decoded_table e ∙ emitted_decodes.table (page_address pa) (held_page pa)
 
 module _ (arena base sup : List ℕ) (l : Layout) (g : Guarded board_limit base sup l) (e : ReadAlike arena base sup l) where

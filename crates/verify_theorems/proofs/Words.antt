@@ -1,4 +1,5 @@
 -- The leaves that encoding leaves for an accepted layout and maps, as verification reads them: each is the one that is wanted.
+use Rattle.std.specs.Prelude.{Some, None}
 use Prim.Native.Nat.{ℕ, ◌+◌, ◌-◌, ◌*◌, ◌/◌, ◌%◌, ◌≤◌, ◌<◌}
 use mathlib.Core.Bool.{Bool, true, false, ◌&&◌}
 use mathlib.Core.List.{List}
@@ -14,7 +15,6 @@ use Rattle.arena.specs.Encoded.{super_at, super_run, device_run, word_at}
 use Rattle.arena.specs.Word.{device_to}
 use Rattle.decode.proofs.Emitted.{emitted_decodes}
 use Rattle.decode.specs.Decoded.{decoded_device}
-use Rattle.decode.specs.declared.DecodedBlock.TheVariants.{Device, Nothing as NoBlock}
 use Rattle.desc.specs.Descriptor.{page_address, block_address}
 use Rattle.fields.specs.Named.{pick}
 use Rattle.layout.specs.Size.{entries, page, block, board_limit, first_word}
@@ -122,7 +122,7 @@ module _
       nothing : word_at (device_run t w) (first_word t + j) ≡ 0 → Past → Wanted
       nothing z past =
           ap decoded_device (leaves j h ∙ z)
-          ∙ sym (ap (λ b. pick b (Device (record { pa = block_address (slot_address w j); xn = true })) NoBlock) (outside past))
+          ∙ sym (ap (λ b. pick b (Some (record { pa = block_address (slot_address w j); xn = true })) None) (outside past))
 
       below : j < first_slot → Wanted
       below k = nothing (run_before j h (t - 1) (device_run t w) table k) (λ le. absurd (omega (arith, k, le)))

@@ -1,11 +1,10 @@
 -- Request M-101. The answer before, as the Rust makes it: the live level 1 slots are gathered in an array with its count (`live_l1`,
 -- `n_live`), and each word that is not 0 is looked up in what is gathered (`dead_except`).
+use Rattle.std.specs.Prelude.{Some, None, Option}
 use Rattle.std.specs.Prelude.{ℕ, suc, Bool, false, not, ◌&&◌, ◌||◌, ◌≡◌, eqb, ltb, set, take}
 use mathlib.Core.List.{List, [], ◌∷◌, ◌++◌, foldl}
 use Rattle.fields.specs.Named.{pick}
 use Rattle.layout.specs.Window.{device_window, l1_slot, l2_slot}
-use Rattle.layout.specs.declared.GuestImage.TheVariants.{At, Absent}
-use Rattle.layout.specs.declared.GuestImage.{GuestImage}
 use Rattle.layout.specs.declared.Layout.{Layout}
 use Rattle.refusal.specs.Table.{Row, given, each, all_rows}
 use Rattle.rows.specs.Rows.{row1, map_rows, refusals}
@@ -21,9 +20,9 @@ abbrev pub live_entry : ℕ → ℕ → LiveEntry
 live_entry ipa table = record { slot = l1_slot ipa; table = table }
 
 -- none where image or device is absent
-abbrev pub image_entry : GuestImage → ℕ → List LiveEntry
-image_entry (At pa) table = live_entry pa table ∷ []
-image_entry Absent table = []
+abbrev pub image_entry : Option ℕ → ℕ → List LiveEntry
+image_entry (Some pa) table = live_entry pa table ∷ []
+image_entry None table = []
 
 abbrev pub device_entry : ℕ → ℕ → ℕ → List LiveEntry
 device_entry base len table = pick (ltb 0 len) (live_entry base table ∷ []) []
@@ -81,9 +80,9 @@ abbrev pub l1_rows_before : List ℕ → Layout → List Row
 l1_rows_before arena l = each (entry_row arena) (live_entries l) ++ dead_except arena 1 (live_slots l)
 
 -- table 2: 19, if there is an image, then 21
-abbrev pub image_rows_before : List ℕ → GuestImage → List Row
-image_rows_before arena (At pa) = row19 (word arena 2 (l2_slot pa)) pa ++ dead_except arena 2 (l2_slot pa ∷ [])
-image_rows_before arena Absent = dead_except arena 2 []
+abbrev pub image_rows_before : List ℕ → Option ℕ → List Row
+image_rows_before arena (Some pa) = row19 (word arena 2 (l2_slot pa)) pa ++ dead_except arena 2 (l2_slot pa ∷ [])
+image_rows_before arena None = dead_except arena 2 []
 
 -- table 3, with the index and the address of the table of data's pages: 18, then 21
 abbrev pub data_rows_before : List ℕ → ℕ → ℕ → List Row

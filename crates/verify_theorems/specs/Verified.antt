@@ -1,9 +1,8 @@
 -- What verification accepts: the words that encoding leaves, and words that its decoders read alike.
+use Rattle.std.specs.Prelude.{None}
 use Rattle.std.specs.Prelude.{ℕ, ◌+◌, ◌<◌, List, ◌≡◌, length, get_or, set}
 use Rattle.arena.specs.Encoded.{target}
 use Rattle.decode.specs.Decoded.{decoded_table, decoded_device}
-use Rattle.decode.specs.declared.DecodedBlock.TheVariants.{Nothing as NoBlock}
-use Rattle.decode.specs.declared.DecodedLeaf.TheVariants.{Nothing as NoLeaf}
 use Rattle.layout.specs.Layout.{layout_of}
 use Rattle.layout.specs.Size.{entries, board_limit, arena_length, first_word}
 use Rattle.layout.specs.declared.Layout.{Layout}
@@ -63,8 +62,8 @@ stored_at t j d arena = set arena (first_word t + j) d
 -- 'It accepts a nonzero word that its decoder reads as nothing .. It ignores device access bits': an encoded arena with one other word,
 -- at index j of table 5 or 6
 pub record LetsBy (arena base sup : List ℕ) (l : Layout) (j d : ℕ) : Type 0 where
-  pub empty_super : encoded_word l base sup 5 j ≡ 0 → read_block d ≡ NoLeaf → Verifies (stored_at 5 j d arena) base sup l
-  pub empty_device : encoded_word l base sup 6 j ≡ 0 → decoded_device d ≡ NoBlock → Verifies (stored_at 6 j d arena) base sup l
+  pub empty_super : encoded_word l base sup 5 j ≡ 0 → read_block d ≡ None → Verifies (stored_at 5 j d arena) base sup l
+  pub empty_device : encoded_word l base sup 6 j ≡ 0 → decoded_device d ≡ None → Verifies (stored_at 6 j d arena) base sup l
   pub device_access : decoded_device d ≡ decoded_device (encoded_word l base sup 6 j) → Verifies (stored_at 6 j d arena) base sup l
 
 abbrev pub LettingBy : Type 0

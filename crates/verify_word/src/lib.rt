@@ -2,124 +2,119 @@
 #![tactic(auto)]
 
 ghost use Rattle.std.specs.Prelude.{◌≡◌};
-ghost use Rattle.decode.specs.declared.DecodedBlock.TheVariants.{Device};
 ghost use Rattle.refusal.specs.Outcome.{outcome_of};
 ghost use Rattle.refusal.specs.Table.{first};
-ghost use Rattle.verify_rows.specs.Word.{same_table, same_block, row18, row19, leaf_row, block_row};
+ghost use Rattle.refusal.specs.declared.Refusal.TheVariants.{SpuriousDescriptor};
+ghost use Rattle.verify_rows.specs.Verifying.{word};
+ghost use Rattle.verify_rows.specs.Word.{row18, row19, leaf_row, block_row};
 
-use decode::{Decoded, DecodedBlock, DecodedDevice, DecodedLeaf, DecodedTable};
+use decode::{Decoded, DecodedDevice};
 use perm::Perm;
-use refusal::{Refusal, Verdict};
+use refusal::Refusal;
 
-// Row 18.
-pub fn table_entry(table: u64, index: u64, d: u64, pa: u64) -> Verdict
-    ensures { outcome_of result ≡ first (row18 table index d pa) }
-{
-    let expected = arena::page_address(pa, 0);
-    let found = decode::decode_table(d);
-    if names(found, expected) {
-        return Verdict::Accepted;
-    }
-    Verdict::Refused(Refusal::BadTableEntry {
-        table,
-        index,
-        found,
-        expected,
-    })
+// A word of the arena, and where it stands.
+#[derive(Clone, Copy)]
+pub struct Word {
+    pub table: u32,
+    pub index: u32,
+    pub desc: u64,
 }
 
-// Whether it is the table at the address.
-fn names(found: DecodedTable, pa: u64) -> bool
-    ensures { result ≡ same_table found pa }
-{
-    match found {
-        DecodedTable::At(named) => named == pa,
-        DecodedTable::Nothing => false,
+impl Word {
+    pub fn at(arena: &[u64], table: u32, index: u32) -> Self
+        ensures { result ≡ record { table = table; index = index; desc = word arena.now table index } }
+    {
+        Word {
+            table,
+            index,
+            desc: verify_read::table_word(arena, table, index),
+        }
     }
-}
 
-// Row 19. The image is the guest's code: it reads and executes, and nothing writes it.
-pub fn image_block(d: u64, pa: u64) -> Verdict
-    ensures { outcome_of result ≡ first (row19 d pa) }
-{
-    let expected = arena::block_address(pa, 0);
-    let found = verify_read::read_block(d);
-    let want = DecodedLeaf::Leaf(Decoded {
-        pa: expected,
-        perm: Perm::Ro,
-        xn: false,
-    });
-    if verify_read::same_leaf(found, want) {
-        return Verdict::Accepted;
-    }
-    Verdict::Refused(Refusal::BadImageBlock { found, expected })
-}
-
-// Row 20 of the frame, or 21 where nothing is wanted.
-pub fn leaf(
-    table: u64,
-    index: u64,
-    d: u64,
-    mfn: u64,
-    found: DecodedLeaf,
-    want: DecodedLeaf,
-) -> Verdict
-    ensures { outcome_of result ≡ first (leaf_row table index d mfn found want) }
-{
-    if verify_read::same_leaf(found, want) {
-        return Verdict::Accepted;
-    }
-    match want {
-        DecodedLeaf::Leaf(_) => Verdict::Refused(Refusal::BadLeaf {
-            mfn,
+    // Row 18.
+    #[tactic(auto, unfolding(verify_rows::specs::Word::row18, refusal::specs::Table::first))]
+    pub fn table_entry(self, pa: u64) -> Result<(), Refusal>
+        ensures { outcome_of result ≡ first (row18 self.table self.index self.desc pa) }
+    {
+        let expected = arena::page_address(pa, 0);
+        let found = decode::decode_table(self.desc);
+        if found == Some(expected) {
+            return Ok(());
+        }
+        Err(Refusal::BadTableEntry {
+            table: self.table as u64,
+            index: self.index as u64,
             found,
-            expected: want,
-        }),
-        DecodedLeaf::Nothing => Verdict::Refused(Refusal::SpuriousDescriptor {
-            table,
-            index,
-            desc: d,
-        }),
+            expected,
+        })
     }
-}
 
-// Row 22, or 21 where nothing is wanted.
-pub fn device_block(table: u64, index: u64, d: u64, want: DecodedBlock) -> Verdict
-    ensures { outcome_of result ≡ first (block_row table index d want) }
-{
-    if same_block(decode::decode_device_block(d), want) {
-        return Verdict::Accepted;
+    // Row 19. The image is the guest's code: it reads and executes, and nothing writes it.
+    #[tactic(auto, unfolding(verify_rows::specs::Word::row19, refusal::specs::Table::first))]
+    pub fn image_block(self, pa: u64) -> Result<(), Refusal>
+        ensures { outcome_of result ≡ first (row19 self.desc pa) }
+    {
+        let expected = arena::block_address(pa, 0);
+        let found = verify_read::read_block(self.desc);
+        let want = Decoded {
+            pa: expected,
+            perm: Perm::Ro,
+            xn: false,
+        };
+        if found == Some(want) {
+            return Ok(());
+        }
+        Err(Refusal::BadImageBlock { found, expected })
     }
-    match want {
-        DecodedBlock::Device(_) => Verdict::Refused(Refusal::BadDeviceBlock { index, desc: d }),
-        DecodedBlock::Nothing => Verdict::Refused(Refusal::SpuriousDescriptor {
-            table,
-            index,
-            desc: d,
-        }),
-    }
-}
 
-fn same_block(found: DecodedBlock, want: DecodedBlock) -> bool
-    ensures { result ≡ same_block found want }
-{
-    match found {
-        DecodedBlock::Device(a) => match want {
-            DecodedBlock::Device(b) => same_device(a, b),
-            DecodedBlock::Nothing => false,
-        },
-        DecodedBlock::Nothing => match want {
-            DecodedBlock::Device(_) => false,
-            DecodedBlock::Nothing => true,
-        },
+    // Row 20 of the frame, or 21 where nothing is wanted.
+    #[tactic(auto, unfolding(verify_rows::specs::Word::leaf_row, refusal::specs::Table::first))]
+    pub fn leaf(
+        self,
+        mfn: u32,
+        found: Option<Decoded>,
+        want: Option<Decoded>,
+    ) -> Result<(), Refusal>
+        ensures { outcome_of result ≡ first (leaf_row self.table self.index self.desc mfn found want) }
+    {
+        if found == want {
+            return Ok(());
+        }
+        match want {
+            Some(_) => Err(Refusal::BadLeaf {
+                mfn: mfn as u64,
+                found,
+                expected: want,
+            }),
+            None => Err(self.spurious()),
+        }
     }
-}
 
-fn same_device(a: DecodedDevice, b: DecodedDevice) -> bool
-    ensures { result ≡ same_block (Device a) (Device b) }
-{
-    if a.pa != b.pa {
-        return false;
+    // Row 22, or 21 where nothing is wanted.
+    #[tactic(auto, unfolding(verify_rows::specs::Word::block_row, refusal::specs::Table::first))]
+    pub fn device_block(self, want: Option<DecodedDevice>) -> Result<(), Refusal>
+        ensures { outcome_of result ≡ first (block_row self.table self.index self.desc want) }
+    {
+        if decode::decode_device_block(self.desc) == want {
+            return Ok(());
+        }
+        match want {
+            Some(_) => Err(Refusal::BadDeviceBlock {
+                index: self.index as u64,
+                desc: self.desc,
+            }),
+            None => Err(self.spurious()),
+        }
     }
-    a.xn as u8 == b.xn as u8
+
+    // Row 21.
+    pub fn spurious(self) -> Refusal
+        ensures { result ≡ SpuriousDescriptor self.table self.index self.desc }
+    {
+        Refusal::SpuriousDescriptor {
+            table: self.table as u64,
+            index: self.index as u64,
+            desc: self.desc,
+        }
+    }
 }

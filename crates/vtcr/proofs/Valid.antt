@@ -1,9 +1,9 @@
 -- What a valid regime's test says, as facts, and that its fields fit VTCR_EL2.
 use Prim.Native.Nat.{◌≤◌, ◌<◌}
-use mathlib.Core.Bool.{true, and-eq-true_iff}
+use mathlib.Core.Bool.{true}
 use mathlib.Core.Path.{◌≡◌}
 use native.Mathlib.Omega.{arith}
-use borrow.Author.Tests.{leb-true, ltb-true}
+use Rattle.std.proofs.lemmas.Bool.Decides.{nat_tests}
 use Rattle.granule.proofs.Bounds.{page_range, sl0_range, tg0_range}
 use Rattle.granule.specs.Granule.{page_bits}
 use Rattle.regime.specs.Regime.{input_fits, valid_regime}
@@ -20,27 +20,19 @@ pub record Valid (r : Stage2Regime) : Type 0 where
   pub inner : r.walk_inner ≤ 3
   pub outer : r.walk_outer ≤ 3
 
-input_facts : (r : Stage2Regime) → input_fits r ≡ true → (r.ipa_bits ≤ 48) × (page_bits r.granule < r.ipa_bits)
-unfolding input_fits
-input_facts r e =
-    let l = (and-eq-true_iff _ _).0 ((and-eq-true_iff _ _).0 e).0 in
-    let p = (and-eq-true_iff _ _).0 l.0 in
-    (leb-true _ _ p.0, ltb-true _ _ p.1)
-
 pub facts : (r : Stage2Regime) → valid_regime r ≡ true → Valid r
-unfolding valid_regime
+unfolding valid_regime input_fits
 facts r e =
-    let o = (and-eq-true_iff _ _).0 e in
-    let i = (and-eq-true_iff _ _).0 o.0 in
-    let h = (and-eq-true_iff _ _).0 i.0 in
-    let p = input_facts r h.0 in
     record {
-      wide = p.0;
-      page = p.1;
-      shareability = leb-true _ _ h.1;
-      inner = leb-true _ _ i.1;
-      outer = leb-true _ _ o.1;
+      wide = grind (arith, nat_tests);
+      page = grind (arith, nat_tests);
+      shareability = grind (arith, nat_tests);
+      inner = grind (arith, nat_tests);
+      outer = grind (arith, nat_tests);
     }
+
+pub wide : (r : Stage2Regime) → valid_regime r ≡ true → r.ipa_bits ≤ 48
+wide r e = (facts r e).wide
 
 -- the fields of a valid regime fit their places
 pub in_range : (r : Stage2Regime) (b : VmidBits) → Valid r → InRange (fields_for r b)

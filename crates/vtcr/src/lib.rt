@@ -5,101 +5,74 @@ ghost use Rattle.std.specs.Prelude.{◌<◌, ◌≡◌};
 ghost use Rattle.vtcr.specs.Fields.{vtcr_fields_of, vtcr_joined};
 ghost use Rattle.vtcr.specs.Vtcr.{regime_named, vtcr_of, decoded_vtcr};
 
-use granule::{Granule, GranuleNamed, LevelNamed, StartLevel};
+use granule::{Granule, StartLevel};
 use regime::Stage2Regime;
-use sizes::{PaSize, SizeNamed, VmidBits};
-
-#[derive(Clone, Copy)]
-pub enum Vtcr {
-    Value(u64),
-    Invalid,
-}
-
-#[derive(Clone, Copy)]
-pub enum DecodedVtcr {
-    Regime(Stage2Regime, VmidBits),
-    Nothing,
-}
+use sizes::{PaSize, VmidBits};
 
 // The VTCR_EL2 value of a regime: DS, HA and HD stay clear.
-pub fn vtcr_el2(regime: Stage2Regime, vmid_bits: VmidBits) -> Vtcr
+#[tactic(auto, using(crate::proofs::Valid::wide))]
+pub fn vtcr_el2(regime: Stage2Regime, vmid_bits: VmidBits) -> Option<u64>
     ensures { result ≡ vtcr_of regime vmid_bits }
 {
     if !regime.valid() {
-        return Vtcr::Invalid;
+        return None;
     }
-    let granule = regime.granule;
-    let start_level = regime.start_level;
-    let pa_size = regime.pa_size;
     let fields = VtcrFields {
-        t0sz: 64 - regime.ipa_bits as u64,
-        sl0: start_level.sl0(),
+        t0sz: 64 - u64::from(regime.ipa_bits),
+        sl0: regime.start_level.sl0(),
         irgn0: regime.walk_inner,
         orgn0: regime.walk_outer,
         sh0: regime.walk_shareability,
-        tg0: granule.tg0(),
-        ps: pa_size.ps(),
+        tg0: regime.granule.tg0(),
+        ps: regime.pa_size.ps(),
         vs: vmid_bits.vs(),
         res1: 1,
         ds: 0,
     };
-    Vtcr::Value(fields.join())
+    Some(fields.into())
 }
 
 // The value that the board is given.
-pub fn baleen_vtcr_el2() -> Vtcr
-    ensures { result ≡ Vtcr.Value 0x8002_3559 }
+#[tactic(auto, using(crate::proofs::RoundTrip::baleen_value))]
+pub fn baleen_vtcr_el2() -> Option<u64>
+    ensures { result ≡ Some 0x8002_3559 }
 {
     vtcr_el2(regime::BALEEN_STAGE2, regime::BALEEN_VMID_BITS)
 }
 
 // The regime that a VTCR_EL2 value names. Bits that are neither RES1 nor DS nor a field are not read.
-pub fn decode_vtcr_el2(v: u64) -> DecodedVtcr
+pub fn decode_vtcr_el2(v: u64) -> Option<(Stage2Regime, VmidBits)>
     ensures { result ≡ decoded_vtcr v }
 {
-    let fields = VtcrFields::of(v);
-    if fields.res1 != 1 {
-        return DecodedVtcr::Nothing;
-    }
-    if fields.ds != 0 {
-        return DecodedVtcr::Nothing;
+    let fields = VtcrFields::from(v);
+    if fields.res1 != 1 || fields.ds != 0 {
+        return None;
     }
     regime_named(fields)
 }
 
 // The regime that the fields name, if none is reserved and it is valid.
 #[tactic(auto, unfolding(crate::specs::Vtcr::regime_named))]
-fn regime_named(fields: VtcrFields) -> DecodedVtcr
+fn regime_named(fields: VtcrFields) -> Option<(Stage2Regime, VmidBits)>
     requires { fields.t0sz < 64 }
     ensures { result ≡ regime_named fields }
 {
-    let GranuleNamed::Granule(granule) = Granule::from_tg0(fields.tg0) else {
-        return DecodedVtcr::Nothing;
-    };
-    let LevelNamed::Level(start_level) = StartLevel::from_sl0(fields.sl0) else {
-        return DecodedVtcr::Nothing;
-    };
-    let SizeNamed::Size(pa_size) = PaSize::from_ps(fields.ps) else {
-        return DecodedVtcr::Nothing;
-    };
     let regime = Stage2Regime {
-        granule,
+        granule: Granule::from_tg0(fields.tg0)?,
         ipa_bits: 64 - fields.t0sz as u32,
-        start_level,
-        pa_size,
+        start_level: StartLevel::from_sl0(fields.sl0)?,
+        pa_size: PaSize::from_ps(fields.ps)?,
         walk_shareability: fields.sh0,
         walk_inner: fields.irgn0,
         walk_outer: fields.orgn0,
     };
-    if regime.valid() {
-        DecodedVtcr::Regime(regime, VmidBits::from_vs(fields.vs))
-    } else {
-        DecodedVtcr::Nothing
-    }
+    regime
+        .valid()
+        .then_some((regime, VmidBits::from_vs(fields.vs)))
 }
 
 // The fields of VTCR_EL2: a value taken apart and put together.
-#[derive(Clone, Copy)]
+#[derive(Clone, Copy, PartialEq, Eq)]
 pub struct VtcrFields {
     pub t0sz: u64,
     pub sl0: u64,
@@ -113,10 +86,10 @@ pub struct VtcrFields {
     pub ds: u64,
 }
 
-impl VtcrFields {
-    pub fn of(v: u64) -> VtcrFields
-        ensures { result ≡ vtcr_fields_of v }
-    {
+impl From<u64> for VtcrFields {
+    ghost from_gives = { λ v f. f ≡ vtcr_fields_of v };
+
+    fn from(v: u64) -> VtcrFields {
         VtcrFields {
             t0sz: v % 0x40,
             sl0: v / 0x40 % 4,
@@ -130,20 +103,22 @@ impl VtcrFields {
             ds: v / 0x1_0000_0000 % 2,
         }
     }
+}
+
+impl From<VtcrFields> for u64 {
+    ghost from_gives = { λ f v. v ≡ vtcr_joined f };
 
     // A field that is too large for its place is cut to it.
-    pub fn join(self) -> u64
-        ensures { result ≡ vtcr_joined self }
-    {
-        self.t0sz % 0x40
-            + self.sl0 % 4 * 0x40
-            + self.irgn0 % 4 * 0x100
-            + self.orgn0 % 4 * 0x400
-            + self.sh0 % 4 * 0x1000
-            + self.tg0 % 4 * 0x4000
-            + self.ps % 8 * 0x1_0000
-            + self.vs % 2 * 0x8_0000
-            + self.res1 % 2 * 0x8000_0000
-            + self.ds % 2 * 0x1_0000_0000
+    fn from(f: VtcrFields) -> u64 {
+        f.t0sz % 0x40
+            + f.sl0 % 4 * 0x40
+            + f.irgn0 % 4 * 0x100
+            + f.orgn0 % 4 * 0x400
+            + f.sh0 % 4 * 0x1000
+            + f.tg0 % 4 * 0x4000
+            + f.ps % 8 * 0x1_0000
+            + f.vs % 2 * 0x8_0000
+            + f.res1 % 2 * 0x8000_0000
+            + f.ds % 2 * 0x1_0000_0000
     }
 }

@@ -24,5 +24,5 @@ pub fn vttbr_table(vttbr: u64) -> u64
 pub fn vttbr_vmid(vttbr: u64, bits: VmidBits) -> u16
     ensures { result ≡ vmid_of vttbr bits }
 {
-    (vttbr / 0x1_0000_0000_0000 % bits.count() as u64) as u16
+    (vttbr / 0x1_0000_0000_0000 % u64::from(bits.count())) as u16
 }

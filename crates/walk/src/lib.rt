@@ -4,54 +4,51 @@
 ghost use Rattle.std.specs.Prelude.{◌<◌, ◌≡◌};
 ghost use Rattle.decode.specs.Decoded.{output_of};
 ghost use Rattle.layout.specs.Size.{block, output_limit};
-ghost use Rattle.reach.specs.Reach.{told_of};
+ghost use Rattle.refusal.specs.Told.{told_of};
 ghost use Rattle.walk.specs.Walk.{leaf_reach, reading, walked_from};
 
-use decode::DecodedLeaf;
+use decode::Decoded;
 use descent::Stop;
 use layout::Layout;
-use reach::{Reach, Reached, Walked};
-use refusal::Verdict;
+use reach::Reach;
+use refusal::Refusal;
 
 // Row 1 alone.
-pub fn walk(arena: &[u64], tables: &[u64; Layout::TABLES], ipa: u64) -> Walked
+#[tactic(auto, unfolding(crate::specs::Walk::walk_of))]
+pub fn walk(
+    arena: &[u64],
+    tables: &[u64; Layout::TABLES],
+    ipa: u64,
+) -> Result<Option<Reach>, Refusal>
     ensures { told_of result ≡ walked_from arena.now tables.now ipa }
 {
-    let verdict = lent_rows::arena_len(arena);
-    match verdict {
-        Verdict::Accepted => Walked::Told(reach_of(descent::descend(arena, tables, ipa), ipa)),
-        Verdict::Refused(refusal) => Walked::Refused(refusal),
-    }
+    lent_rows::arena_len(arena)?;
+    Ok(reach_of(descent::descend(arena, tables, ipa), ipa))
 }
 
 // What the leaf says, and the offset below it.
-fn reach_of(stop: Stop, ipa: u64) -> Reached
+fn reach_of(stop: Stop, ipa: u64) -> Option<Reach>
     ensures { result ≡ reading ipa stop }
 {
     match stop {
-        Stop::Leaf { level, word } => {
-            if level == 3 {
-                join(decode::decode_page(word), ipa % Layout::PAGE_SIZE)
-            } else {
-                join(decode::decode_block(word), ipa % Layout::BLOCK_SIZE)
-            }
+        Stop::Leaf { level: 3, word } => {
+            join(decode::decode_page(word), ipa % Layout::PAGE_SIZE)
         }
-        Stop::Stopped { level: _ } => Reached::Nothing,
+        Stop::Leaf { level: _, word } => {
+            join(decode::decode_block(word), ipa % Layout::BLOCK_SIZE)
+        }
+        Stop::Stopped { level: _ } => None,
     }
 }
 
-fn join(leaf: DecodedLeaf, offset: u64) -> Reached
+fn join(leaf: Option<Decoded>, offset: u64) -> Option<Reach>
     requires leaf_bound { output_of leaf < output_limit }
     requires offset_lt_block { offset < block }
     ensures { result ≡ leaf_reach offset leaf }
 {
-    let DecodedLeaf::Leaf(decoded) = leaf else {
-        return Reached::Nothing;
-    };
-    let perm = decoded.perm;
-    Reached::At(Reach {
+    leaf.map(|decoded| Reach {
         pa: decoded.pa + offset,
-        perm,
+        perm: decoded.perm,
         xn: decoded.xn,
     })
 }

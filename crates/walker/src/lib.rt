@@ -2,11 +2,12 @@
 #![tactic(auto)]
 
 ghost use Rattle.std.specs.Prelude.{◌≡◌};
-ghost use Rattle.reach.specs.Reach.{told_of};
+ghost use Rattle.refusal.specs.Told.{told_of};
 ghost use Rattle.walk.specs.Walk.{walked_from};
 
 use layout::Layout;
-use reach::Walked;
+use reach::Reach;
+use refusal::Refusal;
 
 // The 3,072 words, and the addresses of the six tables in the arena's order. Each has a lifetime of its own.
 #[derive(Clone, Copy)]
@@ -23,7 +24,7 @@ impl<'a, 'b> Walker<'a, 'b> {
     }
 
     // Row 1 alone.
-    pub fn walk(self, ipa: u64) -> Walked
+    pub fn walk(self, ipa: u64) -> Result<Option<Reach>, Refusal>
         ensures { told_of result ≡ walked_from self.entry.words.now self.entry.tables.now ipa }
     {
         walk::walk(self.words, self.tables, ipa)
@@ -31,7 +32,11 @@ impl<'a, 'b> Walker<'a, 'b> {
 }
 
 // A walker for one address, with plain parameters.
-pub fn walk(words: &[u64], tables: &[u64; Layout::TABLES], ipa: u64) -> Walked
+pub fn walk(
+    words: &[u64],
+    tables: &[u64; Layout::TABLES],
+    ipa: u64,
+) -> Result<Option<Reach>, Refusal>
     ensures { told_of result ≡ walked_from words.now tables.now ipa }
 {
     Walker::new(words, tables).walk(ipa)

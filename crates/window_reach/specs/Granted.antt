@@ -1,4 +1,6 @@
 -- The granted answer of an address, by document 01 ("Update"): by windows alone, with no word of a table in it.
+use Rattle.std.specs.Prelude.{Option, Some, None}
+use Rattle.reach.specs.declared.Reach.{Reach}
 use Rattle.std.specs.Prelude.{ℕ, ◌+◌, ◌-◌, ◌/◌, Bool, false, ◌&&◌, List, [], ◌∷◌, map, leb, ltb, get_or}
 use Rattle.desc.specs.Words.{leaf_access_xn}
 use Rattle.desc.specs.declared.AccessXn.{AccessXn}
@@ -9,8 +11,6 @@ use Rattle.layout.specs.declared.Layout.{Layout}
 use Rattle.layout.specs.declared.Window.{Window}
 use Rattle.perm.specs.Perm.{perm_code}
 use Rattle.perm.specs.declared.Perm.TheVariants.{Ro, Rw, Rx}
-use Rattle.reach.specs.declared.Reached.{Reached}
-use Rattle.reach.specs.declared.Reached.TheVariants.{At, Nothing}
 
 -- a window in pieces of one size: piece p is mapped by its entry, as an entry of a leaf map
 pub record Region : Type 0 where
@@ -43,22 +43,22 @@ regions_of l base sup = image_region l ∷ data_region l base ∷ super_region l
 abbrev pub contains : Window → ℕ → Bool
 contains w x = w.present && leb w.ipa x && ltb (x - w.ipa) w.span
 
-abbrev pub reach_at : ℕ → AccessXn → Reached
-reach_at pa a = At (record { pa = pa; perm = a.access; xn = a.xn })
+abbrev pub reach_at : ℕ → AccessXn → Option Reach
+reach_at pa a = Some (record { pa = pa; perm = a.access; xn = a.xn })
 
 -- an output address by an entry: Ro (1, 3) or Rw (2), executable for 3 and, where exempt, for 2; nothing for 0
-abbrev pub by_entry : ℕ → Bool → ℕ → Reached
-by_entry pa exempt entry = named perm_code (Ro ∷ Rw ∷ Rx ∷ []) (λ p. reach_at pa (leaf_access_xn p exempt)) Nothing entry
+abbrev pub by_entry : ℕ → Bool → ℕ → Option Reach
+by_entry pa exempt entry = named perm_code (Ro ∷ Rw ∷ Rx ∷ []) (λ p. reach_at pa (leaf_access_xn p exempt)) None entry
 
 -- the same offset from the output base, by the entry of the piece
-abbrev pub granted_in : Region → ℕ → Reached
+abbrev pub granted_in : Region → ℕ → Option Reach
 granted_in r x =
     let away = x - r.window.ipa in by_entry (r.window.pa + away) r.exempt (r.entry (away / r.piece))
 
 -- nothing elsewhere
-unfoldable pub granted_by : List Region → ℕ → Reached
-granted_by [] x = Nothing
+unfoldable pub granted_by : List Region → ℕ → Option Reach
+granted_by [] x = None
 granted_by (r ∷ rs) x = pick (contains r.window x) (granted_in r x) (granted_by rs x)
 
-abbrev pub granted : Layout → List ℕ → List ℕ → ℕ → Reached
+abbrev pub granted : Layout → List ℕ → List ℕ → ℕ → Option Reach
 granted l base sup x = granted_by (regions_of l base sup) x

@@ -1,15 +1,15 @@
 -- `write` meets its contract: the windows are those of an accepted layout.
-use Prim.Native.Nat.{ℕ}
-use mathlib.Core.List.{List, []}
-use mathlib.Core.Path.{◌≡◌, sym, ap, subst, ◌∙◌}
+use Rattle.std.proofs.Common.{◌≡◌, ℕ, ◌-◌, List, Option, sym, ap, subst, ◌∙◌, rules}
 use Rattle.annex.proofs.Placed.{placed, grants}
-use Rattle.annex.specs.Annex.{address_count, annex_runs}
+use Rattle.annex.proofs.Slots.{past_slots}
+use Rattle.annex.proofs.Writing.{with_bytes, with_runs, none_yet, finishes}
+use Rattle.annex.specs.Annex.{address_count, annex_runs, annex_page}
 use Rattle.annex.specs.Windows.{granted_over, Placed}
-use Rattle.annex.specs.Writing.{Written}
-use Rattle.layout.proofs.Counted.{counted, always}
+use Rattle.layout.proofs.Counted.{counted}
+use Rattle.layout.specs.Size.{input_limit}
 use Rattle.layout.specs.Window.{windows_with, windows_of}
 use Rattle.layout.specs.declared.Window.{Window}
-use Rattle.reach.specs.declared.Reached.{Reached}
+use Rattle.reach.specs.declared.Reach.{Reach}
 use Rattle.runs.specs.Page.{page_of}
 use Rattle.runs.specs.Runs.{runs_from}
 use Rattle.annex.proofs.write.Goals as goal
@@ -17,14 +17,11 @@ use Rattle.annex.proofs.write.Goals.{After-windows_of}
 
 -- the windows are the layout's
 are_windows : (c : After-windows_of) → c.windows_of.result ≡ windows_of c.args.l
-are_windows c =
-    let l = c.args.l in
-    let found = sym c.super_window.ensures ∙ c.in-Counted.is in
-    c.windows_of.ensures ∙ ap (windows_with l) (counted l c.in-Counted.counted found).1
+are_windows c = c.windows_of.ensures ∙ ap (windows_with c.args.l) (counted c.args.l c.in-Some.counted (sym c.super_window.ensures ∙ c.in-Some.is)).1
 
-pub write_windows-requires : goal.write_windows-requires
-write_windows-requires c =
-    subst Placed (sym (are_windows (goal.at.write_windows-requires c).After-windows_of)) (placed c.args.l c.requires.layout)
+pub write_windows-requires-clause-placed : goal.write_windows-requires-clause-placed
+write_windows-requires-clause-placed c =
+    subst Placed (sym (are_windows (goal.at.write_windows-requires-clause-placed c).After-windows_of)) (placed c.args.l c.requires.layout)
 
 pub returns : goal.returns
 unfolding annex_runs
@@ -32,10 +29,17 @@ returns c =
     let a = c.args in
     let base = a.base.now in
     let sup = a.sup.now in
-    let exempt = a.l.sup_wx_exempt in
-    let page : List ℕ → Type 0 =
-    λ text. Written text a.page.now [] c.write_windows.result c.write_windows.new.page in
-    subst page
-    (ap (λ (ws : List Window). page_of (runs_from (granted_over base sup exempt ws) 0 address_count)) (are_windows (goal.at.returns c).After-windows_of)
-    ∙ ap (λ (f : ℕ → Reached). page_of (runs_from f 0 address_count)) (sym (grants a.l base sup)))
-    c.write_windows.ensures
+    let ws = c.windows_of.result in
+    let f = granted_over base sup a.l.sup_wx_exempt ws in
+    let n = address_count - input_limit in
+    let text = page_of (runs_from f 0 address_count) in
+    let old = a.page.now in
+    let done = c.write_windows.new.self in
+    let placed_here = subst Placed (sym (are_windows (goal.at.returns c).After-windows_of)) (placed a.l c.requires.layout) in
+    let all = c.write_windows.ensures.onward n text old (none_yet text old) in
+    let gone = with_runs done.begun (past_slots base sup a.l.sup_wx_exempt ws placed_here n) all in
+    let page : annex_page a.l base sup ≡ text =
+    ap (λ (g : ℕ → Option Reach). page_of (runs_from g 0 address_count)) (grants a.l base sup)
+    ∙ ap (λ (vs : List Window). page_of (runs_from (granted_over base sup a.l.sup_wx_exempt vs) 0 address_count)) (sym (are_windows (goal.at.returns c).After-windows_of)) in
+    with_bytes {b = c.finish.new.self.page.now} (search rules)
+    (rw (page, c.finish.ensures.value, c.finish.ensures.page) (finishes text old done.begun done.page.now done.at gone))

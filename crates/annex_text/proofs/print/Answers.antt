@@ -1,13 +1,11 @@
 -- `print` meets its contract: a bad line comes before all rows.
-use Prim.Native.Nat.{◌≤◌}
-use native.Mathlib.Omega.{arith}
-use lib.ListN.{length}
-use Rattle.annex_text.proofs.Printed.{line_printed}
-use Rattle.printed.specs.Line.{bad_line}
+use Rattle.std.proofs.Common.{arith}
+use Rattle.annex_text.proofs.Printed.{front_printed}
+use Rattle.printed.specs.Line.{bad_line, longest}
 use Rattle.annex_text.proofs.print.Goals as goal
 
-pub returns : goal.returns
+pub returns-in-Err : goal.returns-in-Err
 unfolding bad_line
-returns c =
-    let few : c.bad_line-len.result ≤ length c.args.out.now = omega (arith, c.bad_line-len.ensures.long) in
-    rw c.if-said.false (line_printed bad_line _ _ _ _ _ c.bad_line-len.ensures few c.put.ensures)
+returns-in-Err c =
+    let front = rw c.unwrap.ensures at c.first_chunk_mut.ensures.cases in
+    rw c.in-Err.is (front_printed bad_line c.unwrap.result.now c.args.out.now longest _ _ front.same (omega arith) front.enough c.bad_line.ensures)

@@ -1,11 +1,9 @@
--- `widest_entries` meets its contract: the grants before i are noted.
-use mathlib.Core.List.{map}
-use mathlib.Core.Path.{◌≡◌}
-use lib.ListN.{length}
-use Rattle.authority.proofs.Noted.{Noted}
+-- `widest_entries` meets its contract: the grants before `g` are noted.
+use Rattle.std.proofs.Common.{◌≡◌, map, take}
+use Rattle.std.specs.List.{fold}
+use Rattle.authority.specs.Widest.{noted}
 use Rattle.grant.specs.Grant.{grant_of}
-use Rattle.layout.specs.Size.{entries}
 use Rattle.authority.proofs.widest_entries.Given as goal
 
-abbrev pub invariant-loop-i : goal.invariant-loop-i
-invariant-loop-i l = (length l.widest ≡ entries) × Noted l.frames l.dom l.count (map grant_of l.grants) l.i l.widest
+abbrev pub invariant-loop-g : goal.invariant-loop-g
+invariant-loop-g l = l.widest ≡ fold (noted l.frames l.dom) l.initial.widest (map grant_of (take l.g-index l.grants))

@@ -1,12 +1,7 @@
--- `put_device` meets its contract: m words of the run are stored.
-use native.Mathlib.Omega.{arith}
-use Rattle.arena.proofs.Over.{over_none, over_more}
+-- `put_device` meets its contract: the words of its blocks.
+use Rattle.std.proofs.Common.{rules}
+use Rattle.arena.specs.Encoded.{device_at}
 use Rattle.encode.proofs.put_device.Goals as goal
 
-pub loop-m-init : goal.loop-m-init
-loop-m-init c = (over_none _ _ _ _, omega arith)
-
-pub loop-m-preserved : goal.loop-m-preserved
-loop-m-preserved c =
-    let h1 = c.loop-m-test.true in
-    (over_more _ _ c.loop-m.m _ _ _ _ _ c.device_word.ensures c.loop-m.invariant.0 c.put.ensures, omega (arith, h1))
+pub returns : goal.returns
+returns c = let e = c.put_run.ensures (device_at c.args.w.ipa) (λ m w p. search rules) in rw (c.l2_index-from.ensures) at e

@@ -1,26 +1,14 @@
--- `first_window` meets its contract: the first window is that of the windows from i on.
-use Prim.Native.Nat.{◌≤◌, ◌<◌}
-use mathlib.Core.Bool.{false}
-use mathlib.Core.Path.{sym, ◌∙◌}
-use native.Mathlib.Omega.{arith}
-use lib.ListN.{length}
-use Rattle.layout.specs.Window.{window}
-use Rattle.exposed.proofs.First.{window_at_lem, window_end}
+-- `first_window` meets its contract: the chain finds it.
+use Rattle.std.proofs.Common.{◌≡◌, ap, sym, ◌∙◌, rules, tests}
+use Rattle.std.proofs.lemmas.Iterator.{YieldsList-from_slice}
+use Rattle.std.proofs.lemmas.Iterator.Search.{find_from_yields_List}
+use Rattle.std.specs.Option.{option_map}
+use Rattle.exposed.proofs.First.{exposed_by, window_found}
+use Rattle.exposed.specs.Exposed.{lies_in}
 use Rattle.exposed.proofs.first_window.Goals as goal
-
-pub returns-then-lies_in : goal.returns-then-lies_in
-returns-then-lies_in c =
-    let inside : c.loop-i.i < length c.args.ws = omega arith in
-    let here = window_at_lem c.args.t c.args.ws c.loop-i.i (window 0 false 0 0 0) inside in
-    sym (c.loop-i.invariant ∙ here ∙ rw (sym c.lies_in.ensures ∙ c.if-lies_in.true))
-
-pub loop-i-preserved : goal.loop-i-preserved
-loop-i-preserved c =
-    let inside : c.loop-i.i < length c.args.ws = omega arith in
-    let here = window_at_lem c.args.t c.args.ws c.loop-i.i (window 0 false 0 0 0) inside in
-    c.loop-i.invariant ∙ here ∙ rw (sym c.lies_in.ensures ∙ c.if-lies_in.false)
 
 pub returns : goal.returns
 returns c =
-    let outside : length c.args.ws ≤ c.loop-i.i = omega arith in
-    sym (c.loop-i.invariant ∙ window_end c.args.t c.args.ws c.loop-i.i outside)
+    let found = find_from_yields_List (lies_in c.args.t) _ _ c.find.result c.find.ensures.ran (YieldsList-from_slice c.args.ws (cc)) (λ x b q k. search (rules, tests)) in
+    let mapped : c.map.result ≡ option_map (exposed_by c.args.t) (option_map (λ w. w.now) c.find.result) = search rules in
+    mapped ∙ ap (option_map (exposed_by c.args.t)) found ∙ sym (window_found c.args.t c.args.ws)

@@ -1,29 +1,32 @@
--- `leaf_map_from_edges` meets its contract: the edges from i on are placed into the maps as they are.
-use Prim.Native.Nat.{◌≤◌, ◌<◌}
-use mathlib.Core.List.{[]}
-use mathlib.Core.Path.{◌∙◌, sym, ap}
-use lib.ListN.{length, length-map, get_or-map}
-use Rattle.edge.specs.Edge.{edge_of, edges_of}
-use Rattle.filling.proofs.SoFar.{one_placed, all_placed}
-use Rattle.filling.specs.Filling.{placed_next}
-use Rattle.filling.specs.Progress.{filling_at}
+-- `leaf_map_from_edges` meets its contract: a refused step ends it, and others are followed by the next edge.
+use Rattle.std.proofs.Common.{Err, rules, ◌≡◌, refl, ap, ◌∙◌}
+use Rattle.filling.proofs.Filled.{begun, one_placed, one_refused, all_placed}
+use Rattle.filling.specs.Filling.{filling, placed, conflicts}
 use Rattle.leafmap.proofs.leaf_map_from_edges.Goals as goal
 
-pub loop-i-preserved : goal.loop-i-preserved
-loop-i-preserved c =
-    let a = c.args in
-    let rows = a.edges.now in
-    let i = c.loop-i.i in
-    let within : i < length (edges_of rows) = rw (length-map rows edge_of) c.loop-i-test.true in
-    let read = c.of.ensures ∙ sym (get_or-map edge_of rows i []) in
-    let so_far = filling_at c.loop-i.base c.loop-i.sup c.loop-i.so_far in
-    one_placed a.frames.now a.dom (edges_of rows) _ i so_far _ (edge_of []) within c.loop-i.invariant
-    (c.place_next-so_far.ensures ∙ ap (placed_next a.frames.now a.dom so_far) read)
+pub returns-in_err-start : goal.returns-in_err-start
+returns-in_err-start g c read says =
+    let told : c.from_residual.result ≡ Err c.in_err-start.field-0.0 = search rules in
+    rw told (one_refused (begun (c.in_err-start.ensures {u = tt})) _ refl)
+
+pub loop-e-init : goal.loop-e-init
+loop-e-init g c read says = begun (c.in_ok-start.ensures {u = tt})
+
+pub returns-in_err-place : goal.returns-in_err-place
+returns-in_err-place g c read says =
+    let told : c.from_residual-in_err-place.result ≡ Err c.in_err-place.field-0.0 = search rules in
+    let edge = ap (placed _ _ _) (says c.e-item.result _ c.into.ensures) in
+    rw told
+    (one_refused
+    (one_placed (c.loop-e.invariant read says) c.e-item.result c.e-item.is c.loop-e-test.true refl (c.in_err-place.ensures {u = tt} ∙ edge))
+    _ refl)
+
+pub loop-e-preserved : goal.loop-e-preserved
+loop-e-preserved g c read says =
+    let edge = ap (placed _ _ _) (says c.e-item.result _ c.into.ensures) in
+    one_placed (c.loop-e.invariant read says) c.e-item.result c.e-item.is c.loop-e-test.true refl (c.in_ok-place.ensures {u = tt} ∙ edge)
 
 pub returns : goal.returns
-returns c =
-    let a = c.args in
-    let rows = a.edges.now in
-    let past : length (edges_of rows) ≤ c.loop-i.i = rw (length-map rows edge_of) c.loop-i-test.false in
-    all_placed a.frames.now a.dom (edges_of rows) _ a.base.now a.sup.now c.start-so_far.ensures c.loop-i.i _
-    _ past c.loop-i.invariant c.finish.ensures
+unfolding conflicts
+returns g c read says =
+    all_placed (c.loop-e.invariant read says) c.loop-e-test.false refl (ap (filling _ _) c.no_conflict.ensures)

@@ -1,10 +1,12 @@
--- `leaf_map_from_edges` meets its contract: the edges from i on are placed into the maps as they are.
-use Rattle.edge.specs.Edge.{edges_of}
-use Rattle.filling.proofs.SoFar.{PlacedTo}
-use Rattle.filling.specs.Progress.{filling_at}
+-- `leaf_map_from_edges` meets its contract: the edges from `e` on are still to be placed.
+use Rattle.edge.specs.Edge.{Reads}
+use Rattle.edge.specs.declared.Edge.{Edge}
+use Rattle.filling.proofs.Filled.{Left}
+use Rattle.filling.specs.Filling.{filling}
+use Rattle.refusal.specs.Table.{accepted}
 use Rattle.leafmap.proofs.leaf_map_from_edges.Given as goal
 
-abbrev pub invariant-loop-i : goal.invariant-loop-i
-invariant-loop-i l =
-    PlacedTo l.frames l.dom (edges_of l.edges) (filling_at l.initial.base l.initial.sup l.initial.so_far) l.i
-    (filling_at l.base l.sup l.so_far)
+abbrev pub invariant-loop-e : goal.invariant-loop-e
+invariant-loop-e g l =
+    (read : g.row.E.Denot → Edge) → Reads g.E.Into.converts read →
+    Left read l.edges l.frames l.dom l.fn.base l.fn.sup l.e-index (filling l.base l.sup accepted)

@@ -4,4 +4,4 @@ use Rattle.s2dump.proofs.read_dump.Goals as goal
 
 pub returns : goal.returns
 unfolding dump
-returns g c = let read = c.in_ok-said.ensures.ok in (read.0, read.1, c.of.ensures ∙ ap printed_read read.2)
+returns g c = let read = c.in_ok-read.ensures.ok in (read.0, read.1, c.of.ensures ∙ ap printed_read read.2)

@@ -1,24 +1,24 @@
-use Rattle.std.proofs.Common.{ℕ, List, ◌≡◌, refl, sym, subst, take}
+use Rattle.std.proofs.Common.{ℕ, List, refl, sym, subst}
+use Rattle.std.proofs.KnownBytes.{Appends-nil, Appends-trans}
 use Rattle.std.specs.Io.KnownBytes.{Appends}
 use Rattle.dump.specs.Dump.{in_order}
 use Rattle.dump.specs.Pieces.{piece_at}
-use Rattle.s2dump.proofs.Written.{nothing_written, written, one_more, piece_of}
+use Rattle.s2dump.proofs.Written.{one_more, piece_of}
 use Rattle.s2dump.proofs.write_dump.Goals as goal
 
 pub loop-i-init : goal.loop-i-init
 unfolding in_order
-loop-i-init g c = (refl, nothing_written (g.W.Write.contents c.args.output.now))
+loop-i-init g c = (refl, Appends-nil (g.W.Write.contents c.args.output.now))
 
 pub loop-i-preserved : goal.loop-i-preserved
 loop-i-preserved g c =
-    let inv = c.loop-i.invariant in
     let text : ℕ → List ℕ = piece_at c.args.dump.now.answer c.args.dump.now.words in
     let i = c.loop-i.i in
-    let old = g.W.Write.contents c.args.output.now in
     let between = g.W.Write.contents c.loop-i.output in
     let new = g.W.Write.contents c.write_all.new.self in
-    let piece : take c.piece-len.result c.piece-len.new.out ≡ text i = piece_of (text i) c.loop-i.line c.piece-len.result c.piece-len.new.out c.piece-len.ensures in
+    let piece = piece_of (text i) c.loop-i.line c.piece-len.result c.piece-len.new.out c.piece-len.ensures in
     let more : Appends between new (text i) = subst (λ xs. Appends between new xs) piece c.in_ok-write_all.ensures.bytes in (
       c.piece-len.array_long,
-      subst (λ xs. Appends old new xs) (sym (one_more text i)) (written old between new (in_order text 0 i) (text i) inv.1 more),
+      subst (λ xs. Appends (g.W.Write.contents c.args.output.now) new xs) (sym (one_more text i))
+          (Appends-trans _ between new (in_order text 0 i) (text i) c.loop-i.invariant.1 more),
     )

@@ -1,10 +1,10 @@
--- `number_of` meets its contract: the number of all digits is n with_digit by those from i on.
-use Prim.Native.Nat.{◌^◌, ◌<◌}
-use mathlib.Core.Path.{◌≡◌}
-use lib.ListN.{drop}
+-- the number of the digits so far is n, and i of them are below 16 ^ i
+use Rattle.std.proofs.Common.{Some, ◌^◌, ◌<◌, ◌≡◌, take}
 use Rattle.scene_line.specs.Line.{with_digits}
-use Rattle.scene_line.specs.declared.Number.TheVariants.{Value}
 use Rattle.scene_line.proofs.number_of.Given as goal
 
-abbrev pub invariant-loop-i : goal.invariant-loop-i
-invariant-loop-i l = (l.n < 16 ^ l.i) × (with_digits (Value 0) l.text ≡ with_digits (Value l.n) (drop l.i l.text))
+abbrev pub invariant-loop-c : goal.invariant-loop-c
+invariant-loop-c l = record {
+  below : l.n < 16 ^ l.c-index;
+  so_far : with_digits (Some 0) (take l.c-index l.text) ≡ Some l.n;
+}
