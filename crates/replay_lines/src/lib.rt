@@ -1,7 +1,7 @@
 // The lines of a record: numbers of 16 lower-case hexadecimal digits, one byte after each.
 #![tactic(auto)]
 
-ghost use Rattle.std.specs.Prelude.{◌≡◌};
+ghost use Rattle.std.specs.Prelude.{◌<◌, ◌≡◌};
 ghost use Rattle.replay_lines.specs.Bytes.{bytes_of};
 
 use std::io;
@@ -53,7 +53,9 @@ fn number(text: &[u8]) -> u64 {
 }
 
 // Not `to_digit`, which takes the upper case too.
-fn digit(c: u8) -> u64 {
+fn digit(c: u8) -> u64
+    ensures { result < 16 }
+{
     match c {
         b'0'..=b'9' => (c - b'0') as u64,
         b'a'..=b'f' => (c - b'a' + 10) as u64,
