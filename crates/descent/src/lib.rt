@@ -23,7 +23,7 @@ pub fn descend(arena: &[u64], tables: &[u64; Layout::TABLES], ipa: u64) -> Stop
     if Layout::ADDRESSABLE <= ipa {
         return Stop::Stopped { level: 0 };
     }
-    let word = word_at(arena, tables, tables[0], index_at(2, ipa));
+    let word = fetch_from(arena, tables, tables[0], index_at(2, ipa));
     stop_of(through(&arena, tables, 2, word, ipa))
 }
 
@@ -47,7 +47,7 @@ fn through(arena: &&[u64], tables: &[u64; Layout::TABLES], left: u32, word: u64,
         return end_at(left, word);
     };
     let below = left - 1;
-    let entry = word_at(*arena, tables, next, index_at(below, ipa));
+    let entry = fetch_from(*arena, tables, next, index_at(below, ipa));
     through(arena, tables, below, entry, ipa)
 }
 
@@ -104,7 +104,7 @@ fn index_at(left: u32, ipa: u64) -> usize
 
 // A word of the first table whose address is the one named; none other is in reach, and reads as zero, as do words past a short arena.
 #[tactic(auto, using(crate::proofs::Fetch::fetch_by_position))]
-fn word_at(arena: &[u64], tables: &[u64; Layout::TABLES], named: u64, index: usize) -> u64
+fn fetch_from(arena: &[u64], tables: &[u64; Layout::TABLES], named: u64, index: usize) -> u64
     requires { index < entries }
     ensures { result ≡ fetch 0 tables.now (words_of arena.now) named index }
 {
