@@ -1,3 +1,2 @@
-pub mod Down
 pub mod Fetch
 pub mod Packed

@@ -1,10 +1,10 @@
 // The descent through the tables, from level 1 through level 2 to level 3 (hv-s2's arm64.rs, `walk`).
 #![tactic(auto)]
 
-ghost use Rattle.std.specs.Prelude.{◌≤◌, ◌<◌, ◌≡◌};
+ghost use Rattle.std.specs.Prelude.{◌≤◌, ◌<◌, ◌≡◌, IfSome, eqb, position};
 ghost use Rattle.descent.specs.Descent.{index, words_of, fetch, ends_at, next_table, through, stop_of};
 ghost use Rattle.descent.specs.Packed.{packed, unpacked};
-ghost use Rattle.layout.specs.Size.{entries};
+ghost use Rattle.layout.specs.Size.{entries, table_count};
 
 use layout::Layout;
 
@@ -16,13 +16,14 @@ pub enum Stop {
 }
 
 // From the l1 address on. An address of 2^39 or more would wrap into the same tables, and stops at level 0.
+#[tactic(auto, using(crate::proofs::Packed::back), unfolding(crate::specs::Descent::descend))]
 pub fn descend(arena: &[u64], tables: &[u64; Layout::TABLES], ipa: u64) -> Stop
     ensures { result ≡ stop_of tables.now (λ left. words_of arena.now) ipa }
 {
     if Layout::ADDRESSABLE <= ipa {
         return Stop::Stopped { level: 0 };
     }
-    let word = word_at(arena, tables, 2, tables[0], ipa);
+    let word = fetch_from(arena, tables, tables[0], index_at(2, ipa));
     stop_of(through(&arena, tables, 2, word, ipa))
 }
 
@@ -46,13 +47,12 @@ fn through(arena: &&[u64], tables: &[u64; Layout::TABLES], left: u32, word: u64,
         return end_at(left, word);
     };
     let below = left - 1;
-    let entry = word_at(*arena, tables, below, next, ipa);
+    let entry = fetch_from(*arena, tables, next, index_at(below, ipa));
     through(arena, tables, below, entry, ipa)
 }
 
 // A page at level 3, a block at level 2; level 1 knows none.
 fn end_at(left: u32, word: u64) -> u64
-    requires { left ≤ 2 }
     ensures { result ≡ packed (ends_at left word) }
 {
     match left {
@@ -90,19 +90,10 @@ fn stop_of(end: u64) -> Stop
     }
 }
 
-// The word that a read sees with `left` levels below.
-fn word_at(arena: &[u64], tables: &[u64; Layout::TABLES], left: u32, named: u64, ipa: u64) -> u64
-    requires { left ≤ 2 }
-    ensures { result ≡ fetch 0 tables.now (words_of arena.now) named (index left ipa) }
-{
-    fetch_from(arena, tables, named, index_at(left, ipa))
-}
-
-// The nine index bits of a level.
+// The nine index bits of the level with `left` below it.
 fn index_at(left: u32, ipa: u64) -> usize
     requires { left ≤ 2 }
-    ensures value { result ≡ index left ipa }
-    ensures upper_bound { result < entries }
+    ensures { result ≡ index left ipa }
 {
     match left {
         0 => (ipa / Layout::PAGE_SIZE % Layout::INDICES) as usize,
@@ -111,21 +102,21 @@ fn index_at(left: u32, ipa: u64) -> usize
     }
 }
 
-// The first table whose address is the one named; none other is in reach, and reads as zero, as do words past a short arena.
+// A word of the first table whose address is the one named; none other is in reach, and reads as zero, as do words past a short arena.
+#[tactic(auto, using(crate::proofs::Fetch::fetch_by_position))]
 fn fetch_from(arena: &[u64], tables: &[u64; Layout::TABLES], named: u64, index: usize) -> u64
     requires { index < entries }
     ensures { result ≡ fetch 0 tables.now (words_of arena.now) named index }
 {
-    // A slice, of which the proof knows the length: of an array behind a reference it does not.
-    let listed: &[u64] = tables;
-    for t in 0..Layout::TABLES {
-        if listed[t] == named {
-            let place = t * Layout::ENTRIES + index;
-            if place < arena.len() {
-                return arena[place];
-            }
-            return 0;
-        }
-    }
-    0
+    let Some(t) = table_named(tables, named) else {
+        return 0;
+    };
+    arena.get(t * Layout::ENTRIES + index).copied().unwrap_or(0)
+}
+
+fn table_named(tables: &[u64; Layout::TABLES], named: u64) -> Option<usize>
+    ensures value { result ≡ position (λ pa. eqb pa named) tables.now }
+    ensures upper_bound { IfSome result (λ t. t < table_count) }
+{
+    tables.iter().position(|pa| *pa == named)
 }
