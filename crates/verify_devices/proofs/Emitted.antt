@@ -1,12 +1,9 @@
 -- The emitted word of a device has no row: it is read as what is wanted.
 use Rattle.std.specs.Prelude.{Some, None}
-use Prim.Native.Nat.{ℕ, ◌+◌, ◌-◌, ◌≤◌}
+use Prim.Native.Nat.{ℕ}
 use mathlib.Core.Bool.{Bool, true, false}
 use mathlib.Core.List.{[]}
 use mathlib.Core.Path.{◌≡◌, refl, ap, ◌∙◌}
-use native.Mathlib.Omega.{arith}
-use lib.Dec.{ltb}
-use borrow.Author.Tests.{ltb-true, ltb-false, lt-ltb, le-ltb}
 use Rattle.arena.specs.Word.{device_to}
 use Rattle.decode.proofs.Emitted.{emitted_decodes}
 use Rattle.decode.specs.Decoded.{decoded_device}

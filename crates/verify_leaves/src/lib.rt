@@ -2,7 +2,7 @@
 // emitted words are passed over first, since nothing is decoded there.
 #![tactic(auto)]
 
-ghost use Rattle.std.specs.Prelude.{◌+◌, ◌*◌, ◌≡◌, [], IsTrue};
+ghost use Rattle.std.specs.Prelude.{◌+◌, ◌*◌, ◌≡◌, [], IsTrue, get_or};
 ghost use Rattle.layout.specs.Size.{block};
 ghost use Rattle.layout.specs.Window.{l2_slot};
 ghost use Rattle.refusal.specs.Outcome.{outcome_of};
@@ -17,62 +17,89 @@ use verify_word::Word;
 pub fn verify_base(arena: &[u64], base: &[u8], l: Layout) -> Result<(), Refusal>
     ensures { outcome_of result ≡ first (page_rows arena.now base.now l) }
 {
+    let frames = Frames {
+        arena,
+        map: base,
+        layout: l,
+    };
     verify_rows::each_past(
         Layout::ENTRIES as u32,
-        |m| has_page(arena, base, l, m),
-        |m| base_frame(arena, base, l, m),
+        |m| frames.has_page(m),
+        |m| frames.check_page(m),
     )
-}
-
-// The emitted word is read as what is wanted.
-#[tactic(auto, using(crate::proofs::Emitted::page_none), unfolding(verify_rows::specs::Verifying::base_row))]
-fn has_page(arena: &[u64], base: &[u8], l: Layout, m: u32) -> bool
-    ensures { IsTrue result → base_row arena.now base.now l.data_pa_base m ≡ [] }
-{
-    let entry = map_entries::entry_at(base, m as usize);
-    verify_read::table_word(arena, 4, m) == arena::page_word(l.data_pa_base, m, entry)
-}
-
-#[tactic(auto, unfolding(verify_rows::specs::Verifying::base_row))]
-fn base_frame(arena: &[u64], base: &[u8], l: Layout, m: u32) -> Result<(), Refusal>
-    ensures { outcome_of result ≡ first (base_row arena.now base.now l.data_pa_base m) }
-{
-    let word = Word::at(arena, 4, m);
-    let entry = map_entries::entry_at(base, m as usize);
-    let want = verify_read::wanted_leaf(entry, arena::page_address(l.data_pa_base, m), false);
-    word.leaf(m, verify_read::read_page(word.desc), want)
 }
 
 // Table 5. Supers at or past sup_frames are looked for like the others: row 14 is not tested here.
 pub fn verify_super(arena: &[u64], sup: &[u8], l: Layout) -> Result<(), Refusal>
     ensures { outcome_of result ≡ first (super_rows arena.now sup.now l) }
 {
+    let frames = Frames {
+        arena,
+        map: sup,
+        layout: l,
+    };
     verify_rows::each_past(
         Layout::ENTRIES as u32,
-        |m| has_block(arena, sup, l, m),
-        |m| super_frame(arena, sup, l, m),
+        |m| frames.has_block(m),
+        |m| frames.check_block(m),
     )
 }
 
-#[tactic(auto, using(crate::proofs::Emitted::block_none), unfolding(verify_rows::specs::Verifying::super_row))]
-fn has_block(arena: &[u64], sup: &[u8], l: Layout, m: u32) -> bool
-    ensures { IsTrue result → super_row arena.now sup.now l.sup_ipa_base l.sup_pa_base l.sup_wx_exempt m ≡ [] }
-{
-    let entry = map_entries::entry_at(sup, m as usize);
-    let d = verify_read::table_word(arena, 5, super_index(l.sup_ipa_base, m));
-    d == arena::block_word(l.sup_pa_base, m, l.sup_wx_exempt, entry)
+// The frames of a map, whose leaves stand in the arena.
+#[derive(Clone, Copy)]
+struct Frames<'a> {
+    arena: &'a [u64],
+    map: &'a [u8],
+    layout: Layout,
 }
 
-#[tactic(auto, unfolding(verify_rows::specs::Verifying::super_row))]
-fn super_frame(arena: &[u64], sup: &[u8], l: Layout, m: u32) -> Result<(), Refusal>
-    ensures { outcome_of result
-        ≡ first (super_row arena.now sup.now l.sup_ipa_base l.sup_pa_base l.sup_wx_exempt m) }
-{
-    let word = Word::at(arena, 5, super_index(l.sup_ipa_base, m));
-    let entry = map_entries::entry_at(sup, m as usize);
-    let pa = arena::block_address(l.sup_pa_base, m);
-    let want = verify_read::wanted_leaf(entry, pa, l.sup_wx_exempt);
-    word.leaf(m, verify_read::read_block(word.desc), want)
+impl Frames<'_> {
+    // The emitted word is read as what is wanted.
+    #[tactic(auto, using(crate::proofs::Emitted::page_none), unfolding(verify_rows::specs::Verifying::base_row))]
+    fn has_page(self, m: u32) -> bool
+        ensures { let f = self.entry in IsTrue result → base_row f.arena.now f.map.now f.layout.data_pa_base m ≡ [] }
+    {
+        let emitted = arena::page_word(self.layout.data_pa_base, m, self.entry_at(m));
+        verify_read::table_word(self.arena, 4, m) == emitted
+    }
+
+    #[tactic(auto, unfolding(verify_rows::specs::Verifying::base_row))]
+    fn check_page(self, m: u32) -> Result<(), Refusal>
+        ensures { let f = self.entry in outcome_of result ≡ first (base_row f.arena.now f.map.now f.layout.data_pa_base m) }
+    {
+        let word = Word::at(self.arena, 4, m);
+        let pa = arena::page_address(self.layout.data_pa_base, m);
+        let want = verify_read::wanted_leaf(self.entry_at(m), pa, false);
+        word.leaf(m, verify_read::read_page(word.desc), want)
+    }
+
+    #[tactic(auto, using(crate::proofs::Emitted::block_none), unfolding(verify_rows::specs::Verifying::super_row))]
+    fn has_block(self, m: u32) -> bool
+        ensures { let f = self.entry in let l = f.layout in
+            IsTrue result → super_row f.arena.now f.map.now l.sup_ipa_base l.sup_pa_base l.sup_wx_exempt m ≡ [] }
+    {
+        let l = self.layout;
+        let emitted = arena::block_word(l.sup_pa_base, m, l.sup_wx_exempt, self.entry_at(m));
+        verify_read::table_word(self.arena, 5, super_index(l.sup_ipa_base, m)) == emitted
+    }
+
+    #[tactic(auto, unfolding(verify_rows::specs::Verifying::super_row))]
+    fn check_block(self, m: u32) -> Result<(), Refusal>
+        ensures { let f = self.entry in let l = f.layout in
+            outcome_of result ≡ first (super_row f.arena.now f.map.now l.sup_ipa_base l.sup_pa_base l.sup_wx_exempt m) }
+    {
+        let l = self.layout;
+        let word = Word::at(self.arena, 5, super_index(l.sup_ipa_base, m));
+        let pa = arena::block_address(l.sup_pa_base, m);
+        let want = verify_read::wanted_leaf(self.entry_at(m), pa, l.sup_wx_exempt);
+        word.leaf(m, verify_read::read_block(word.desc), want)
+    }
+
+    fn entry_at(self, m: u32) -> u8
+        ensures { result ≡ get_or self.entry.map.now m 0 }
+    {
+        map_entries::entry_at(self.map, m as usize)
+    }
 }
 
 // A super stands at its own slot, not at its frame number.
