@@ -50,17 +50,12 @@ fn reach_in(base: &[u8], sup: &[u8], l: Layout, ipa: u64) -> Option<Reach>
     reach_device(l.devices(), ipa)
 }
 
-#[tactic(auto, using(crate::proofs::Grants::devices_from, crate::proofs::Grants::devices_end))]
 fn reach_device(ds: [Window; Layout::DEVICES], ipa: u64) -> Option<Reach>
     requires { All (λ w. w.present ≡ true → Within board_limit w) ds }
     ensures { result ≡ granted_by (map device_region ds) ipa }
 {
-    for w in ds {
-        if inside(w, ipa) {
-            return Some(grant(w, ipa, false, Perm::Rw));
-        }
-    }
-    None
+    let w = ds.iter().find(|w| inside(**w, ipa))?;
+    Some(grant(*w, ipa, false, Perm::Rw))
 }
 
 fn inside(w: Window, ipa: u64) -> bool
