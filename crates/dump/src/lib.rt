@@ -1,19 +1,21 @@
 // What is printed of a scene (document 01, "Proved and printed").
 #![tactic(auto)]
 
-ghost use Rattle.std.specs.Prelude.{◌≡◌, replicate, get_or};
+ghost use Rattle.std.specs.Fmt.{WritesOnOk};
+ghost use Rattle.std.specs.Prelude.{◌≡◌, replicate, Some, Ok};
 ghost use Rattle.dump.specs.Dump.{line_at, printed_read};
-ghost use Rattle.dump.specs.Pieces.{piece_at, pieces};
+ghost use Rattle.dump.specs.Pieces.{pieces};
 ghost use Rattle.dump.specs.declared.Undumped.TheVariants.{BadLine as BadLineOf, Refused};
 ghost use Rattle.layout.specs.Size.{arena_length};
-ghost use Rattle.printed.specs.Line.{Puts};
 ghost use Rattle.refusal.specs.Outcome.{row_of};
 ghost use Rattle.scene.specs.Scene.{scene};
 ghost use Rattle.scene_text.specs.Reading.{read_of};
 
 use layout::Layout;
+use printed::Line;
 use refusal::Refusal;
 use scene_text::BadLine;
+use std::fmt;
 
 // Why no words are printed.
 #[derive(Clone, Copy)]
@@ -81,34 +83,38 @@ fn encoded(
     Ok(())
 }
 
-// The piece of one word, in the front of the buffer; returns its length.
-#[tactic(auto, unfolding(crate::specs::Pieces::piece_at))]
-pub fn piece(
-    answer: Result<(), Undumped>,
-    words: &[u64],
-    i: usize,
-    out: &mut [u8; printed::LINE],
-) -> usize
-    ensures { Puts (piece_at answer words.now i) out.old result out.new }
-{
-    match answer {
-        Ok(()) => word_piece(words, i, out),
-        Err(_) if i != 0 => 0,
-        Err(Undumped::BadLine) => printed::bad_line(out),
-        Err(Undumped::Refused(number)) => printed::refused_line(number, out),
+impl fmt::Display for Dump {
+    ghost output = { λ dump. Some (pieces dump.answer dump.words) };
+
+    #[tactic(auto, using(crate::proofs::Whole::bad_pieces, crate::proofs::Whole::refused_pieces), unfolding(printed::specs::Text::line_text))]
+    fn fmt<W: fmt::Write>(&self, f: &mut fmt::Formatter<W>) -> fmt::Result {
+        match self.answer {
+            Ok(()) => write_words(&self.words, f),
+            Err(Undumped::BadLine) => write!(f, "{}", Line::Bad),
+            Err(Undumped::Refused(number)) => write!(f, "{}", Line::Refused(number)),
+        }
     }
 }
 
-// A word past the last is 0, and has no line.
-#[tactic(auto, unfolding(crate::specs::Dump::line_at))]
-fn word_piece(words: &[u64], i: usize, out: &mut [u8; printed::LINE]) -> usize
-    ensures { Puts (line_at i (get_or words.now i 0)) out.old result out.new }
+// In table and index order.
+fn write_words<W: fmt::Write>(words: &[u64], f: &mut fmt::Formatter<W>) -> fmt::Result
+    ensures { WritesOnOk W.write_str_gives f.old result (pieces (Ok tt) words.now) f.new }
 {
-    let word = words.get(i).copied().unwrap_or(0);
-    if word == 0 {
-        return 0;
+    for (i, word) in words.iter().enumerate() {
+        write_word(i, *word, f)?;
     }
-    let table = (i / Layout::ENTRIES) as u64;
+    Ok(())
+}
+
+// A word that is 0 has no line.
+#[tactic(auto, unfolding(crate::specs::Dump::line_at, printed::specs::Text::line_text))]
+fn write_word<W: fmt::Write>(i: usize, word: u64, f: &mut fmt::Formatter<W>) -> fmt::Result
+    ensures { WritesOnOk W.write_str_gives f.old result (line_at i word) f.new }
+{
+    if word == 0 {
+        return Ok(());
+    }
+    let table = (i / Layout::ENTRIES) as u64 + 1;
     let index = (i % Layout::ENTRIES) as u64;
-    printed::word_line(table + 1, index, word, out)
+    write!(f, "{}", Line::Word { table, index, word })
 }

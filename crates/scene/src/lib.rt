@@ -3,22 +3,33 @@
 
 ghost use Rattle.std.specs.Prelude.{◌≡◌, set};
 ghost use Rattle.layout.specs.Layout.{field_at};
-ghost use Rattle.scene.specs.Scene.{applied, scene, with_field};
+ghost use Rattle.scene.specs.Lent.{held, SameLists};
+ghost use Rattle.scene.specs.Scene.{applied, with_field};
 
 use scene_line::Line;
 
 // The field of the image.
 const IMAGE: usize = 7;
 
-// Sets what the line says, over what an earlier line set.
-pub fn apply(line: Line, numbers: &mut [u64], base: &mut [u8], sup: &mut [u8])
-    ensures { scene numbers.new base.new sup.new
-        ≡ applied (scene numbers.old base.old sup.old) line }
-{
-    match line {
-        Line::Field { field, value } => put_field(numbers, field, value),
-        Line::Base { position, code } => put(base, position, code),
-        Line::Super { position, code } => put(sup, position, code),
+// A scene in the lists that are lent for it.
+#[derive(Drop)]
+pub struct Scene<'a> {
+    pub numbers: &'a mut [u64],
+    pub base: &'a mut [u8],
+    pub sup: &'a mut [u8],
+}
+
+impl Scene<'_> {
+    // Sets what the line says, over what an earlier line set.
+    pub fn apply(&mut self, line: Line)
+        ensures same_lists { SameLists self.old self.new }
+        ensures lists { held self.new ≡ applied (held self.old) line }
+    {
+        match line {
+            Line::Field { field, value } => put_field(self.numbers, field, value),
+            Line::Base { position, code } => put(self.base, position, code),
+            Line::Super { position, code } => put(self.sup, position, code),
+        }
     }
 }
 

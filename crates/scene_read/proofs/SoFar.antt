@@ -13,10 +13,10 @@ use Rattle.scene_text.specs.declared.BadLine.{BadLine}
 
 -- one piece more of a text, of whose lines 36 bytes are kept
 pub more :
-    (s : Scene) (text piece : List ℕ) (r next : Reading) (room : ℕ) →
-    room ≡ 36 → taken_all 36 (reading s []) text ≡ r → next ≡ taken_all room r piece → taken_all 36 (reading s []) (text ++ piece) ≡ next
-more s text piece r next room e so_far left =
-    reads_pieces 36 (reading s []) text piece ∙ ap (λ q. taken_all 36 q piece) so_far ∙ sym (left ∙ ap (λ k. taken_all k r piece) e)
+    (s : Scene) (text piece : List ℕ) (r next : Reading) →
+    taken_all 36 (reading s []) text ≡ r → next ≡ taken_all 36 r piece → taken_all 36 (reading s []) (text ++ piece) ≡ next
+more s text piece r next so_far left =
+    reads_pieces 36 (reading s []) text piece ∙ ap (λ q. taken_all 36 q piece) so_far ∙ sym left
 
 -- the last read brings nothing
 pub all_read :

@@ -18,10 +18,8 @@ stays room s cs = fold_stays (taken room) (stopped s) (λ c. refl) cs
 
 -- a line that ends at a byte of the text, and is bad
 pub stops :
-    (room k : ℕ) (r so_far : Reading) (cs : List ℕ) (i : ℕ) (s : Scene) →
-    i < length cs → taken_all room r (take i cs) ≡ so_far → stopped s ≡ taken k so_far (get_or cs i 0) → k ≡ room →
-    stopped s ≡ taken_all room r cs
+    (room : ℕ) (r so_far : Reading) (cs : List ℕ) (i : ℕ) (s : Scene) →
+    i < length cs → taken_all room r (take i cs) ≡ so_far → stopped s ≡ taken room so_far (get_or cs i 0) → stopped s ≡ taken_all room r cs
 unfolding taken_all
-stops room k r so_far cs i s inside read bad same =
-    fold_stuck (taken room) (stopped s) (λ c. refl) r cs i 0 inside
-    (ap (λ q. taken room q (get_or cs i 0)) read ∙ sym (bad ∙ ap (λ n. taken n so_far (get_or cs i 0)) same))
+stops room r so_far cs i s inside read bad =
+    fold_stuck (taken room) (stopped s) (λ c. refl) r cs i 0 inside (ap (λ q. taken room q (get_or cs i 0)) read ∙ sym bad)

@@ -43,10 +43,10 @@ abbrev pub ReadsPieces : Type 0
 ReadsPieces =
     (room : ℕ) (r : Reading) (piece next : List ℕ) → taken_all room r (piece ++ next) ≡ taken_all room (taken_all room r piece) next
 
--- the answers of the code: what is kept is the front of the line's buffer
-abbrev pub reading_of : Result ℕ BadLine → List ℕ → Scene → Reading
-reading_of (Ok n) line s = reading s (take n line)
-reading_of (Err bad) line s = stopped s
+-- the answers of the code, by what is kept of the line
+abbrev pub going_on : Result Unit BadLine → List ℕ → Scene → Reading
+going_on (Ok all) line s = reading s line
+going_on (Err bad) line s = stopped s
 
 abbrev pub read_of : Result Unit BadLine → Scene → Read
 read_of (Ok all) s = whole s
