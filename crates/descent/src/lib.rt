@@ -114,8 +114,7 @@ fn fetch_from(arena: &[u64], tables: &[u64; Layout::TABLES], named: u64, index: 
     arena.get(t * Layout::ENTRIES + index).copied().unwrap_or(0)
 }
 
-// Which table has this address: the first, if there is one.
-pub fn table_named(tables: &[u64; Layout::TABLES], named: u64) -> Option<usize>
+fn table_named(tables: &[u64; Layout::TABLES], named: u64) -> Option<usize>
     ensures value { result ≡ position (λ pa. eqb pa named) tables.now }
     ensures upper_bound { IfSome result (λ t. t < table_count) }
 {

@@ -2,12 +2,12 @@
 // uses it.
 #![tactic(auto)]
 
-ghost use Rattle.std.specs.Prelude.{◌≤◌, ◌<◌, ◌∷◌, ◌≡◌};
+ghost use Rattle.std.specs.Prelude.{◌≤◌, ◌<◌, ◌∷◌, ◌≡◌, IfSome, eqb, position};
 ghost use Rattle.std.specs.List.{find};
 ghost use Rattle.descent.specs.Descent.{words_of, fetch};
 ghost use Rattle.judge_translation.specs.Answer.{is_at, elsewhere_of, access_numbered, translated_of, translation_answer};
 ghost use Rattle.judge_translation.specs.Asked.{access_of, level_of, translated};
-ghost use Rattle.layout.specs.Size.{entries};
+ghost use Rattle.layout.specs.Size.{entries, table_count};
 ghost use Rattle.manual.specs.Translation.{permits, leaf};
 
 use layout::Layout;
@@ -140,7 +140,7 @@ impl Translation<'_> {
         ensures { result ≡ fetch (elsewhere_of self.entry.places.now named index)
             self.entry.tables.now (words_of self.entry.arena.now) named index }
     {
-        match descent::table_named(self.tables, named) {
+        match table_named(self.tables, named) {
             Some(t) => verify_read::word_at(self.arena, t * Layout::ENTRIES + index),
             None => self.elsewhere(named, index as u64),
         }
@@ -155,6 +155,13 @@ impl Translation<'_> {
             None => 0,
         }
     }
+}
+
+fn table_named(tables: &[u64; Layout::TABLES], named: u64) -> Option<usize>
+    ensures value { result ≡ position (λ pa. eqb pa named) tables.now }
+    ensures upper_bound { IfSome result (λ t. t < table_count) }
+{
+    tables.iter().position(|pa| *pa == named)
 }
 
 fn place_named(places: &[[u64; 3]], named: u64, index: u64) -> Option<[u64; 3]>
