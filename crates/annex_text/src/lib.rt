@@ -7,6 +7,7 @@ ghost use Rattle.scene.specs.Scene.{scene};
 ghost use Rattle.scene_text.specs.Reading.{read_of};
 
 use layout::Layout;
+use lent_rows::Maps;
 use scene_text::BadLine;
 
 // Of a scene's numbers and maps, as they were read. The text stands in the front of the buffer; returns its length.
@@ -36,7 +37,7 @@ fn print_scene(
     ensures { Puts (annex_scene (scene numbers.now base.now sup.now))
         out.old result out.new }
 {
-    match annex::annex(out, base, sup, layout_numbers::layout_of(numbers)) {
+    match annex::annex(out, Maps { base, sup }, layout_numbers::layout_of(numbers)) {
         Ok(bytes) => bytes as usize,
         Err(refusal) => {
             let line = out.first_chunk_mut().unwrap();
