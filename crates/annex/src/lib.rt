@@ -19,6 +19,7 @@ ghost use Rattle.text.specs.Front.{put_at};
 ghost use Rattle.window_reach.specs.Granted.{by_entry, granted_in};
 
 use layout::{Layout, Window};
+use lent_rows::Maps;
 use perm::Perm;
 use reach::Reach;
 use refusal::Refusal;
@@ -26,14 +27,6 @@ use runs::Run;
 
 // A line for an image, for each page of data, each super and each device, and the last line: no page is longer (`LongestPage`).
 pub const LONGEST: usize = 41080;
-
-// What the entries of pages and supers are read from, and whether supers have the exemption.
-#[derive(Clone, Copy)]
-struct Maps<'a> {
-    base: &'a [u8],
-    sup: &'a [u8],
-    exempt: bool,
-}
 
 // The page, how many of its bytes are written, and the run that has begun, whose line they lack.
 #[derive(Drop)]
@@ -45,47 +38,45 @@ struct Writer<'a> {
 }
 
 // Rows 2 to 14, then 27: nothing is written before all is counted.
-pub fn annex(page: &mut [u8], base: &[u8], sup: &[u8], l: Layout) -> Result<u64, Refusal>
-    ensures { AnnexAnswer l base.now sup.now page.old (told_of result) page.new }
+pub fn annex(page: &mut [u8], maps: Maps<'_>, l: Layout) -> Result<u64, Refusal>
+    ensures { AnnexAnswer l maps.entry.base.now maps.entry.sup.now page.old
+        (told_of result) page.new }
 {
-    guard::guard_maps_at(Layout::BOARD_LIMIT, base, sup, l)?;
-    put_page(page, base, sup, l)
+    guard::guard_maps_at(Layout::BOARD_LIMIT, maps, l)?;
+    put_page(page, maps, l)
 }
 
 // Row 27. In a buffer without room every line is counted, and none is put.
 #[tactic(auto, using(accepted_facts::proofs::Guarded::guarded_facts))]
-fn put_page(page: &mut [u8], base: &[u8], sup: &[u8], l: Layout) -> Result<u64, Refusal>
-    requires { first (guard_rows board_limit base.now sup.now l) ≡ accepted }
-    ensures { AnnexAnswer l base.now sup.now page.old (told_of result) page.new }
+fn put_page(page: &mut [u8], maps: Maps<'_>, l: Layout) -> Result<u64, Refusal>
+    requires { first (guard_rows board_limit maps.base.now maps.sup.now l) ≡ accepted }
+    ensures { AnnexAnswer l maps.entry.base.now maps.entry.sup.now page.old
+        (told_of result) page.new }
 {
-    let len = write(&mut [], base, sup, l);
+    let len = write(&mut [], maps, l);
     if page.len() < len {
         return Err(Refusal::PageTooLong);
     }
-    write(page, base, sup, l);
+    write(page, maps, l);
     Ok(len as u64)
 }
 
 // The page, where there is room for it; returns its length.
-fn write(page: &mut [u8], base: &[u8], sup: &[u8], l: Layout) -> usize
-    requires { Guarded board_limit base.now sup.now l }
-    ensures { Written (annex_page l base.now sup.now) page.old [] result page.new }
+fn write(page: &mut [u8], maps: Maps<'_>, l: Layout) -> usize
+    requires { Guarded board_limit maps.base.now maps.sup.now l }
+    ensures { Written (annex_page l maps.entry.base.now maps.entry.sup.now) page.old []
+        result page.new }
 {
     // After row 8 the super window is counted.
     let Some(counted) = l.super_window() else {
         return 0;
-    };
-    let maps = Maps {
-        base,
-        sup,
-        exempt: l.sup_wx_exempt,
     };
     let mut writer = Writer {
         page,
         at: 0,
         begun: None,
     };
-    writer.write_windows(maps, windows::windows_of(l, counted));
+    writer.write_windows(maps, l.sup_wx_exempt, windows::windows_of(l, counted));
     writer.finish()
 }
 
@@ -93,34 +84,36 @@ impl Writer<'_> {
     ghost use Rattle.annex.specs.Onward.{Onward, Across};
 
     // The slots of table 1 are in address order, and each has one window or none.
-    fn write_windows(&mut self, maps: Maps<'_>, ws: [Window; Layout::WINDOWS])
+    fn write_windows(&mut self, maps: Maps<'_>, exempt: bool, ws: [Window; Layout::WINDOWS])
         requires placed { Placed ws }
         requires none_yet { self.old.at ≡ 0 }
         ensures same_page { self.new.page.ghost_name ≡ self.old.page.ghost_name }
         ensures few { self.new.at ≤ input_limit }
-        ensures onward { (n : ℕ) → let f = granted_over maps.entry.base.now maps.entry.sup.now maps.entry.exempt ws in
+        ensures onward { (n : ℕ)
+            → let f = granted_over maps.entry.base.now maps.entry.sup.now exempt ws in
             Onward self.old (runs_from f 0 (input_limit + n)) self.new (runs_from f input_limit n) }
     {
         let mut from = 0;
         while let Some(w) = next_window(ws, from) {
-            self.write_window(maps, w);
+            self.write_window(maps, exempt, w);
             from = w.l1_index() + 1;
         }
     }
 
     // Data and supers go by their maps; an image is Rx, and a device Rw. Windows are told apart by document 01's codes.
-    fn write_window(&mut self, maps: Maps<'_>, w: Window)
+    fn write_window(&mut self, maps: Maps<'_>, exempt: bool, w: Window)
         requires sited { Sited w }
         requires few { self.old.at ≤ w.ipa }
         ensures same_page { self.new.page.ghost_name ≡ self.old.page.ghost_name }
         ensures few_after { self.new.at ≤ w.ipa + w.span }
         ensures across { Across w.ipa w.span
-            (λ i. granted_in (region_in maps.entry.base.now maps.entry.sup.now maps.entry.exempt w) (w.ipa + i)) self.old self.new }
+            (λ i. granted_in (region_in maps.entry.base.now maps.entry.sup.now exempt w) (w.ipa + i))
+            self.old self.new }
     {
         match w.code {
             1 => self.write_piece(w.ipa, w.span, window_reach::by_perm(w.pa, false, Perm::Rx)),
             2 => self.write_pieces(maps.base, w, Layout::PAGE_SIZE, false),
-            3 => self.write_pieces(maps.sup, w, Layout::BLOCK_SIZE, maps.exempt),
+            3 => self.write_pieces(maps.sup, w, Layout::BLOCK_SIZE, exempt),
             _ => self.write_piece(w.ipa, w.span, window_reach::by_perm(w.pa, false, Perm::Rw)),
         }
     }

@@ -8,6 +8,7 @@ ghost use Rattle.scene.specs.Scene.{scene};
 ghost use Rattle.scene_text.specs.Reading.{read_of};
 
 use layout::Layout;
+use lent_rows::Maps;
 use printed::Line;
 use scene_text::BadLine;
 use std::io;
@@ -42,7 +43,7 @@ fn write_page<W: Write>(
         (annex_scene (scene numbers.now base.now sup.now))) }
 {
     let mut page = [0; annex::LONGEST];
-    match annex::annex(&mut page, base, sup, layout_numbers::layout_of(numbers)) {
+    match annex::annex(&mut page, Maps { base, sup }, layout_numbers::layout_of(numbers)) {
         Ok(len) => output.write_all(&page[..len as usize]),
         Err(refusal) => write!(output, "{}", Line::Refused(refusal.words()[0])),
     }

@@ -12,6 +12,7 @@ ghost use Rattle.scene.specs.Scene.{scene};
 ghost use Rattle.scene_text.specs.Reading.{read_of};
 
 use layout::Layout;
+use lent_rows::Maps;
 use printed::Line;
 use refusal::Refusal;
 use scene_text::BadLine;
@@ -79,7 +80,7 @@ fn encoded(
 {
     read?;
     let l = layout_numbers::layout_of(numbers);
-    encode::encode_at(Layout::DUMP_LIMIT, words, base, sup, l)?;
+    encode::encode_at(Layout::DUMP_LIMIT, words, Maps { base, sup }, l)?;
     Ok(())
 }
 

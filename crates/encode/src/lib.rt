@@ -2,7 +2,7 @@
 #![tactic(auto)]
 
 ghost use Rattle.std.specs.Prelude.{ℕ, ◌+◌, ◌*◌, ◌/◌, ◌≤◌, ◌<◌, [], ◌∷◌, map, ◌≡◌, length};
-ghost use Rattle.arena.specs.Encoded.{run, one, stored, page_run, super_run, device_run, image_run, area_run, upper_runs, leaf_runs};
+ghost use Rattle.arena.specs.Encoded.{run, one, stored, page_run, super_run, device_run, image_run, area_run, upper_runs};
 ghost use Rattle.arena.specs.Encoded.{cleared, encoded};
 ghost use Rattle.arena.specs.Over.{Over};
 ghost use Rattle.encode.specs.Encoding.{Encoding};
@@ -14,43 +14,42 @@ ghost use Rattle.refusal.specs.Outcome.{outcome_of};
 
 use areas::Area;
 use layout::{Layout, Window};
+use lent_rows::Maps;
 use refusal::Refusal;
 
 // The words of the six tables.
 type Arena = [u64; Layout::ARENA_LEN];
 
 // Rows 1 to 14 come before the first store.
-pub fn encode(arena: &mut [u64], base: &[u8], sup: &[u8], l: Layout) -> Result<(), Refusal>
-    ensures { Encoding board_limit l base.now sup.now arena.old (outcome_of result) arena.new }
+pub fn encode(arena: &mut [u64], maps: Maps<'_>, l: Layout) -> Result<(), Refusal>
+    ensures { Encoding board_limit l maps.entry.base.now maps.entry.sup.now arena.old
+        (outcome_of result) arena.new }
 {
-    encode_at(Layout::BOARD_LIMIT, arena, base, sup, l)
+    encode_at(Layout::BOARD_LIMIT, arena, maps, l)
 }
 
 // The same where tables and outputs lie below a limit of the caller's.
-pub fn encode_at(
-    limit: u64,
-    arena: &mut [u64],
-    base: &[u8],
-    sup: &[u8],
-    l: Layout,
-) -> Result<(), Refusal>
-    ensures { Encoding limit l base.now sup.now arena.old (outcome_of result) arena.new }
+pub fn encode_at(limit: u64, arena: &mut [u64], maps: Maps<'_>, l: Layout) -> Result<(), Refusal>
+    ensures { Encoding limit l maps.entry.base.now maps.entry.sup.now arena.old
+        (outcome_of result) arena.new }
 {
-    guard::guard_at(limit, arena, base, sup, l)?;
-    encode_guarded(arena.as_mut_array().unwrap(), base, sup, l);
+    guard::guard_at(limit, arena, maps, l)?;
+    encode_guarded(arena.as_mut_array().unwrap(), maps, l);
     Ok(())
 }
 
 // What rows 1 to 14 have let by. Tables 1 to 3 are not cleared: an old word remains unless overwritten.
-fn encode_guarded(arena: &mut Arena, base: &[u8], sup: &[u8], l: Layout)
-    requires base_len_bound { length base.now ≤ entries }
-    requires supers_fit { SupersFit l sup.now }
+fn encode_guarded(arena: &mut Arena, maps: Maps<'_>, l: Layout)
+    requires base_len_bound { length maps.base.now ≤ entries }
+    requires supers_fit { SupersFit l maps.sup.now }
     requires all { All DeviceFits (devices_of l) }
-    ensures { Over (encoded l base.now sup.now) arena.old arena.new }
+    ensures { Over (encoded l maps.entry.base.now maps.entry.sup.now) arena.old arena.new }
 {
     clear(arena);
     encode_upper(arena, l);
-    encode_leaves(arena, base, sup, l);
+    put_pages(arena, maps.base, l);
+    put_supers(arena, maps.sup, l);
+    put_device(arena, l.device_window());
 }
 
 // Table 4 and on whole, so that no leaf of another guest remains.
@@ -68,18 +67,6 @@ fn encode_upper(arena: &mut Arena, l: Layout)
     put_image(arena, l);
     let index = Layout::l2_index(l.data_ipa_base) as usize;
     put(arena, 3, index, arena::table_word(l.l3_data_pa));
-}
-
-// Table 4 and on.
-fn encode_leaves(arena: &mut Arena, base: &[u8], sup: &[u8], l: Layout)
-    requires base_len_bound { length base.now ≤ entries }
-    requires supers_fit { SupersFit l sup.now }
-    requires all { All DeviceFits (devices_of l) }
-    ensures { Over (stored (leaf_runs l base.now sup.now)) arena.old arena.new }
-{
-    put_pages(arena, base, l);
-    put_supers(arena, sup, l);
-    put_device(arena, l.device_window());
 }
 
 // Table 1.

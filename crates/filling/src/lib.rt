@@ -7,6 +7,7 @@ ghost use Rattle.refusal.specs.Outcome.{outcome_of};
 ghost use Rattle.refusal.specs.Table.{accepted};
 
 use edge::Edge;
+use lent_rows::Maps;
 use p2m::Span;
 use refusal::Refusal;
 
@@ -15,7 +16,7 @@ use refusal::Refusal;
 pub fn start(base: &mut [u8], sup: &mut [u8]) -> Result<(), Refusal>
     ensures { filling base.new sup.new (outcome_of result) ≡ started base.old sup.old }
 {
-    lent_rows::map_lens(base, sup)?;
+    Maps { base, sup }.check_lens()?;
     base.fill(0);
     sup.fill(0);
     Ok(())

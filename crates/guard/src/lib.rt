@@ -9,39 +9,37 @@ ghost use Rattle.refusal.specs.Table.{first, each_from, pairs};
 ghost use Rattle.rows.specs.Rows.{row13, row14, guard_rows, arena_guard_rows};
 
 use layout::{Layout, Table};
+use lent_rows::Maps;
 use refusal::{Refusal, first};
 
 // Rows 1 to 14.
-pub fn guard(arena: &[u64], base: &[u8], sup: &[u8], l: Layout) -> Result<(), Refusal>
-    ensures { outcome_of result ≡ first (arena_guard_rows board_limit arena.now base.now sup.now l) }
+pub fn guard(arena: &[u64], maps: Maps<'_>, l: Layout) -> Result<(), Refusal>
+    ensures { outcome_of result
+        ≡ first (arena_guard_rows board_limit arena.now maps.entry.base.now maps.entry.sup.now l) }
 {
-    guard_at(Layout::BOARD_LIMIT, arena, base, sup, l)
+    guard_at(Layout::BOARD_LIMIT, arena, maps, l)
 }
 
 // The same where tables and outputs lie below a limit of the caller's.
 #[tactic(auto, using(refusal::proofs::Sequence::in_turn), unfolding(rows::specs::Rows::arena_guard_rows))]
-pub fn guard_at(
-    limit: u64,
-    arena: &[u64],
-    base: &[u8],
-    sup: &[u8],
-    l: Layout,
-) -> Result<(), Refusal>
-    ensures { outcome_of result ≡ first (arena_guard_rows limit arena.now base.now sup.now l) }
+pub fn guard_at(limit: u64, arena: &[u64], maps: Maps<'_>, l: Layout) -> Result<(), Refusal>
+    ensures { outcome_of result
+        ≡ first (arena_guard_rows limit arena.now maps.entry.base.now maps.entry.sup.now l) }
 {
     lent_rows::arena_len(arena)?;
-    guard_maps_at(limit, base, sup, l)
+    guard_maps_at(limit, maps, l)
 }
 
 // Rows 2 to 14, where no arena is lent.
 #[tactic(auto, using(refusal::proofs::Sequence::in_turn), unfolding(rows::specs::Rows::guard_rows))]
-pub fn guard_maps_at(limit: u64, base: &[u8], sup: &[u8], l: Layout) -> Result<(), Refusal>
-    ensures { outcome_of result ≡ first (guard_rows limit base.now sup.now l) }
+pub fn guard_maps_at(limit: u64, maps: Maps<'_>, l: Layout) -> Result<(), Refusal>
+    ensures { outcome_of result
+        ≡ first (guard_rows limit maps.entry.base.now maps.entry.sup.now l) }
 {
-    lent_rows::maps(base, sup)?;
+    maps.check()?;
     validate::validate_at(limit, l)?;
     all_distinct(l.tables())?;
-    backed(l.sup_frames, sup)
+    backed(l.sup_frames, maps.sup)
 }
 
 // Row 13, over every pair.

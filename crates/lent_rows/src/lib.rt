@@ -9,6 +9,13 @@ ghost use Rattle.rows.specs.Rows.{row1, row2, row3, read_rows, length_rows, map_
 use layout::Layout;
 use refusal::{Refusal, first};
 
+// The two leaf maps of a guest, lent for reading: of base pages, and of supers.
+#[derive(Clone, Copy)]
+pub struct Maps<'a> {
+    pub base: &'a [u8],
+    pub sup: &'a [u8],
+}
+
 // Row 1.
 #[tactic(auto, unfolding(rows::specs::Rows::row1, refusal::specs::Table::first))]
 pub fn arena_len(arena: &[u64]) -> Result<(), Refusal>
@@ -65,21 +72,23 @@ pub fn read_map(code: u64, map: &[u8]) -> Result<(), Refusal>
     map_codes(code, map)
 }
 
-// Row 2, of both maps.
-#[tactic(auto, using(refusal::proofs::Sequence::in_turn), unfolding(rows::specs::Rows::length_rows))]
-pub fn map_lens(base: &[u8], sup: &[u8]) -> Result<(), Refusal>
-    ensures { outcome_of result ≡ first (length_rows base.now sup.now) }
-{
-    map_len(base)?;
-    map_len(sup)
-}
+impl Maps<'_> {
+    // Row 2.
+    #[tactic(auto, using(refusal::proofs::Sequence::in_turn), unfolding(rows::specs::Rows::length_rows))]
+    pub fn check_lens(self) -> Result<(), Refusal>
+        ensures { outcome_of result ≡ first (length_rows self.entry.base.now self.entry.sup.now) }
+    {
+        map_len(self.base)?;
+        map_len(self.sup)
+    }
 
-// Rows 2 and 3, of both maps where they are read.
-#[tactic(auto, using(refusal::proofs::Sequence::in_turn), unfolding(rows::specs::Rows::map_rows))]
-pub fn maps(base: &[u8], sup: &[u8]) -> Result<(), Refusal>
-    ensures { outcome_of result ≡ first (map_rows base.now sup.now) }
-{
-    map_lens(base, sup)?;
-    map_codes(1, base)?;
-    map_codes(2, sup)
+    // Rows 2 and 3, where both maps are read.
+    #[tactic(auto, using(refusal::proofs::Sequence::in_turn), unfolding(rows::specs::Rows::map_rows))]
+    pub fn check(self) -> Result<(), Refusal>
+        ensures { outcome_of result ≡ first (map_rows self.entry.base.now self.entry.sup.now) }
+    {
+        self.check_lens()?;
+        map_codes(1, self.base)?;
+        map_codes(2, self.sup)
+    }
 }

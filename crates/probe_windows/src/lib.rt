@@ -6,6 +6,7 @@ ghost use Rattle.std.specs.Prelude.{◌≡◌};
 ghost use Rattle.probe_windows.specs.Answer.{granted_answer};
 
 use layout::Layout;
+use lent_rows::Maps;
 
 #[unsafe(no_mangle)]
 pub extern "C" fn probe_windows(
@@ -18,5 +19,5 @@ pub extern "C" fn probe_windows(
     ensures { out.new ≡ granted_answer numbers.now base.now sup.now ipa }
 {
     let layout = layout_numbers::layout_of(numbers);
-    *out = refusal::words(window_reach::window_reach(base, sup, layout, ipa));
+    *out = refusal::words(window_reach::window_reach(Maps { base, sup }, layout, ipa));
 }

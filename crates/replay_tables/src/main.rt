@@ -5,6 +5,7 @@
 #![tactic(auto)]
 
 use layout::Layout;
+use lent_rows::Maps;
 use refusal::{Refusal, Told};
 use std::io;
 use std::io::{Read, Write};
@@ -46,36 +47,37 @@ fn store(arena: &mut [u64], from: usize, count: usize, word: u64) -> Option<()> 
 
 fn call<W: Write>(output: &mut W, arena: &mut [u64], x: &[u64; 6], l: Layout) -> io::Result<()> {
     let [which, base, sup, _, a, b] = *x;
-    let base = replay_lines::bytes(base);
-    let sup = replay_lines::bytes(sup);
+    let maps = Maps {
+        base: &replay_lines::bytes(base),
+        sup: &replay_lines::bytes(sup),
+    };
     match which {
         1 => {
-            print_answer(output, encode::encode(arena, &base, &sup, l))?;
+            print_answer(output, encode::encode(arena, maps, l))?;
             print_digest(output, arena)
         }
         2 => {
-            print_answer(output, steps_between(arena, &base, &sup, l, a, b))?;
+            print_answer(output, steps_between(arena, maps, l, a, b))?;
             print_digest(output, arena)
         }
         3 => print_answer(
             output,
             walk::walk(arena, &l.tables().map(|table| table.pa), a),
         ),
-        _ => print_answer(output, verify::verify_encoding(arena, &base, &sup, l)),
+        _ => print_answer(output, verify::verify_encoding(arena, maps, l)),
     }
 }
 
 // The steps from one to another, or to the first that is refused; what the last one says.
 fn steps_between(
     arena: &mut [u64],
-    base: &[u8],
-    sup: &[u8],
+    maps: Maps<'_>,
     l: Layout,
     from: u64,
     to: u64,
 ) -> Result<(), Refusal> {
     for n in from..=to {
-        update::step(arena, base, sup, l, n)?;
+        update::step(arena, maps, l, n)?;
     }
     Ok(())
 }

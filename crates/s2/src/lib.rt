@@ -10,6 +10,7 @@ ghost use Rattle.s2.specs.Answers.{PageAnswer, authorized_answer, exact_answer};
 
 use edge::Edge;
 use layout::Layout;
+use lent_rows::Maps;
 use p2m::Span;
 use refusal::{Refusal, Told};
 
@@ -75,7 +76,7 @@ pub extern "C" fn s2_encode(
         arena.new }
 {
     answer(
-        encode::encode(arena, base, sup, layout_numbers::layout_of(layout)),
+        encode::encode(arena, Maps { base, sup }, layout_numbers::layout_of(layout)),
         values,
     )
 }
@@ -93,8 +94,9 @@ pub extern "C" fn s2_step(
     ensures { StepAnswer layout.now base.now sup.now step arena.old
         (result ∷ values.new) arena.new }
 {
+    let maps = Maps { base, sup };
     answer(
-        update::step(arena, base, sup, layout_numbers::layout_of(layout), step),
+        update::step(arena, maps, layout_numbers::layout_of(layout), step),
         values,
     )
 }
@@ -125,7 +127,7 @@ pub extern "C" fn s2_verify(
         ≡ verify_answer layout.now arena.now base.now sup.now }
 {
     answer(
-        verify::verify_encoding(arena, base, sup, layout_numbers::layout_of(layout)),
+        verify::verify_encoding(arena, Maps { base, sup }, layout_numbers::layout_of(layout)),
         values,
     )
 }
@@ -154,7 +156,7 @@ pub extern "C" fn s2_annex(
         page.new }
 {
     answer(
-        annex::annex(page, base, sup, layout_numbers::layout_of(layout)),
+        annex::annex(page, Maps { base, sup }, layout_numbers::layout_of(layout)),
         values,
     )
 }

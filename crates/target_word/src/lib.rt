@@ -8,18 +8,19 @@ ghost use Rattle.layout.specs.Window.{device_window};
 ghost use Rattle.target_word.specs.Run.{run_at};
 
 use layout::Layout;
+use lent_rows::Maps;
 
 #[tactic(auto, using(crate::proofs::Place::by_table))]
-pub fn target_word(base: &[u8], sup: &[u8], l: Layout, i: usize) -> u64
-    ensures { result ≡ target l base.now sup.now i }
+pub fn target_word(maps: Maps<'_>, l: Layout, i: usize) -> u64
+    ensures { result ≡ target l maps.entry.base.now maps.entry.sup.now i }
 {
     let j = (i % Layout::ENTRIES) as u32;
     match i / Layout::ENTRIES {
         0 => l1_word(l, j),
         1 => image_word(l, j),
         2 => data_word(l, j),
-        3 => page_word(base, l, j),
-        4 => super_word(sup, l, j),
+        3 => page_word(maps.base, l, j),
+        4 => super_word(maps.sup, l, j),
         5 => device_word(l, j),
         _ => 0,
     }

@@ -7,6 +7,7 @@ ghost use Rattle.refusal.specs.Outcome.{outcome_of};
 ghost use Rattle.update.specs.Step.{step_count, place_of, stored_by, Stepping};
 
 use layout::Layout;
+use lent_rows::Maps;
 use refusal::Refusal;
 
 // Every word is zeroed, then every word is stored.
@@ -14,15 +15,16 @@ const STEPS: usize = 2 * Layout::ARENA_LEN;
 
 // Rows 1 to 14, then 26, come before the store, which is the only one.
 #[tactic(auto, using(refusal::proofs::Sequence::in_turn), unfolding(crate::specs::Step::step_rows, crate::specs::Step::row26, refusal::specs::Table::first))]
-pub fn step(arena: &mut [u64], base: &[u8], sup: &[u8], l: Layout, n: u64) -> Result<(), Refusal>
-    ensures { Stepping l base.now sup.now n arena.old (outcome_of result) arena.new }
+pub fn step(arena: &mut [u64], maps: Maps<'_>, l: Layout, n: u64) -> Result<(), Refusal>
+    ensures { Stepping l maps.entry.base.now maps.entry.sup.now n arena.old
+        (outcome_of result) arena.new }
 {
-    guard::guard(arena, base, sup, l)?;
+    guard::guard(arena, maps, l)?;
     if STEPS as u64 <= n {
         return Err(Refusal::StepPastLast);
     }
     let number = n as usize;
-    arena[place_of(number)] = stored_by(base, sup, l, number);
+    arena[place_of(number)] = stored_by(maps, l, number);
     Ok(())
 }
 
@@ -38,12 +40,12 @@ fn place_of(n: usize) -> usize
     STEPS - 1 - n
 }
 
-fn stored_by(base: &[u8], sup: &[u8], l: Layout, n: usize) -> u64
+fn stored_by(maps: Maps<'_>, l: Layout, n: usize) -> u64
     requires { n < step_count }
-    ensures { result ≡ stored_by l base.now sup.now n }
+    ensures { result ≡ stored_by l maps.entry.base.now maps.entry.sup.now n }
 {
     if Layout::ARENA_LEN <= n {
-        return target_word::target_word(base, sup, l, STEPS - 1 - n);
+        return target_word::target_word(maps, l, STEPS - 1 - n);
     }
     0
 }

@@ -13,24 +13,26 @@ ghost use Rattle.rows.specs.Rows.{guard_rows};
 ghost use Rattle.window_reach.specs.Granted.{device_region, contains, by_entry, granted_by, granted};
 
 use layout::{Layout, Window};
+use lent_rows::Maps;
 use perm::Perm;
 use reach::Reach;
 use refusal::Refusal;
 
 // Rows 2 to 14 come first: the sums below serve accepted layouts alone.
 #[tactic(auto, using(accepted_facts::proofs::Guarded::guarded_facts))]
-pub fn window_reach(base: &[u8], sup: &[u8], l: Layout, ipa: u64) -> Result<Option<Reach>, Refusal>
-    ensures { told_of result ≡ after (first (guard_rows board_limit base.now sup.now l))
-        (granted l base.now sup.now ipa) }
+pub fn window_reach(maps: Maps<'_>, l: Layout, ipa: u64) -> Result<Option<Reach>, Refusal>
+    ensures { told_of result
+        ≡ after (first (guard_rows board_limit maps.entry.base.now maps.entry.sup.now l))
+        (granted l maps.entry.base.now maps.entry.sup.now ipa) }
 {
-    guard::guard_maps_at(Layout::BOARD_LIMIT, base, sup, l)?;
-    Ok(reach_in(base, sup, l, ipa))
+    guard::guard_maps_at(Layout::BOARD_LIMIT, maps, l)?;
+    Ok(reach_in(maps, l, ipa))
 }
 
 #[tactic(auto, unfolding(crate::specs::Granted::granted_by))]
-fn reach_in(base: &[u8], sup: &[u8], l: Layout, ipa: u64) -> Option<Reach>
-    requires { Guarded board_limit base.now sup.now l }
-    ensures { result ≡ granted l base.now sup.now ipa }
+fn reach_in(maps: Maps<'_>, l: Layout, ipa: u64) -> Option<Reach>
+    requires { Guarded board_limit maps.base.now maps.sup.now l }
+    ensures { result ≡ granted l maps.entry.base.now maps.entry.sup.now ipa }
 {
     let image = l.image_window();
     if inside(image, ipa) {
@@ -38,13 +40,13 @@ fn reach_in(base: &[u8], sup: &[u8], l: Layout, ipa: u64) -> Option<Reach>
     }
     let data = l.data_window();
     if inside(data, ipa) {
-        let perm = entry_of(base, data, ipa, Layout::PAGE_SIZE)?;
+        let perm = entry_of(maps.base, data, ipa, Layout::PAGE_SIZE)?;
         return Some(grant(data, ipa, false, perm));
     }
     // After row 8 the super window is counted.
     let supers = l.super_window()?;
     if inside(supers, ipa) {
-        let perm = entry_of(sup, supers, ipa, Layout::BLOCK_SIZE)?;
+        let perm = entry_of(maps.sup, supers, ipa, Layout::BLOCK_SIZE)?;
         return Some(grant(supers, ipa, l.sup_wx_exempt, perm));
     }
     reach_device(l.devices(), ipa)

@@ -6,5 +6,5 @@ use Rattle.annex.proofs.annex.Goals as goal
 
 pub returns-in_err-guard_maps_at : goal.returns-in_err-guard_maps_at
 returns-in_err-guard_maps_at c =
-    denied_first c.args.l c.args.base.now c.args.sup.now c.args.page.now _ (row_of c.in_err-guard_maps_at.field-0.0) (search rules)
+    denied_first c.args.l c.args.maps.base.now c.args.maps.sup.now c.args.page.now _ (row_of c.in_err-guard_maps_at.field-0.0) (search rules)
     c.in_err-guard_maps_at.ensures

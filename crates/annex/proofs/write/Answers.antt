@@ -27,8 +27,8 @@ pub returns : goal.returns
 unfolding annex_runs
 returns c =
     let a = c.args in
-    let base = a.base.now in
-    let sup = a.sup.now in
+    let base = a.maps.base.now in
+    let sup = a.maps.sup.now in
     let ws = c.windows_of.result in
     let f = granted_over base sup a.l.sup_wx_exempt ws in
     let n = address_count - input_limit in

@@ -9,14 +9,14 @@ pub unwrap-requires : goal.unwrap-requires
 unwrap-requires c =
     let a = c.args in
     let let_by = sym c.guard_at.ensures ∙ ap outcome_of c.in_ok-guard_at.was in
-    let facts = arena_guarded_facts a.limit a.arena.now a.base.now a.sup.now a.l let_by in
+    let facts = arena_guarded_facts a.limit a.arena.now a.maps.base.now a.maps.sup.now a.l let_by in
     c.as_mut_array.ensures.variant.1 facts.0
 
 pub encode_guarded-requires : goal.encode_guarded-requires
 encode_guarded-requires c =
     let a = c.args in
     let let_by = sym c.guard_at.ensures ∙ ap outcome_of c.in_ok-guard_at.was in
-    let facts = arena_guarded_facts a.limit a.arena.now a.base.now a.sup.now a.l let_by in
+    let facts = arena_guarded_facts a.limit a.arena.now a.maps.base.now a.maps.sup.now a.l let_by in
     record {
       base_len_bound = base_fits _ _ _ _ facts.1;
       supers_fit = supers_fit _ _ _ _ facts.1;

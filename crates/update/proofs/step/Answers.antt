@@ -9,5 +9,5 @@ pub bounds-arena-place_of : goal.bounds-arena-place_of
 bounds-arena-place_of c =
     let a = c.args in
     let let_by = sym c.guard.ensures ∙ ap outcome_of c.in_ok-guard.was in
-    let facts = arena_guarded_facts board_limit a.arena.now a.base.now a.sup.now a.l let_by in
+    let facts = arena_guarded_facts board_limit a.arena.now a.maps.base.now a.maps.sup.now a.l let_by in
     omega (arith, facts.0, c.place_of.ensures.upper_bound)

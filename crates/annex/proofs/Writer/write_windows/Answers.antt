@@ -12,7 +12,7 @@ loop-w-preserved c =
     let a = c.args in
     let base = a.maps.base.now in
     let sup = a.maps.sup.now in
-    let exempt = a.maps.exempt in
+    let exempt = a.exempt in
     let w = c.in-Some.w in
     let there = c.in-Some.ensures.there w refl in
     let few = window_few base sup exempt a.ws c.requires.placed w there.0 there.2 in
@@ -32,12 +32,12 @@ loop-w-preserved c =
 pub returns-clause-onward : goal.returns-clause-onward
 returns-clause-onward c =
     let a = c.args in
-    let f = granted_over a.maps.base.now a.maps.sup.now a.maps.exempt a.ws in
+    let f = granted_over a.maps.base.now a.maps.sup.now a.exempt a.ws in
     let next = next_slot c.next_window.result in
     let none : c.next_window.result ≡ None = search rules in
     let last : next ≡ entries = ap next_slot none in
     λ n text old w.
     with_runs c.loop-w.self.begun
-    (to_slot a.maps.base.now a.maps.sup.now a.maps.exempt a.ws c.requires.placed c.loop-w.from next n (omega (arith, last, c.loop-w.invariant.within)) (omega (arith, last)) c.next_window.ensures.none
+    (to_slot a.maps.base.now a.maps.sup.now a.exempt a.ws c.requires.placed c.loop-w.from next n (omega (arith, last, c.loop-w.invariant.within)) (omega (arith, last)) c.next_window.ensures.none
     ∙ last_slot f next n last)
     (c.loop-w.invariant.onward n text old w)

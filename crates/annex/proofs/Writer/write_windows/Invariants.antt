@@ -14,7 +14,7 @@ invariant-loop-w l = record {
   few : l.self.at ≤ l.from * l1_span;
   onward :
       (n : ℕ) →
-      let f = granted_over l.maps.base.now l.maps.sup.now l.maps.exempt l.ws in
+      let f = granted_over l.maps.base.now l.maps.sup.now l.exempt l.ws in
       Onward l.initial.self (runs_from f 0 (input_limit + n)) l.self (slots_from f l.from n);
 }
 
