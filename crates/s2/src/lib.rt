@@ -39,7 +39,7 @@ pub extern "C" fn s2_fill(
         ≡ fill_answer (edges_of edges.now) frames.now dom base.old sup.old }
 {
     answer(
-        leafmap::leaf_map_from_edges(edges, Domain { dom, frames }, base, sup),
+        leafmap::leaf_map_from_edges::<[u32; 6]>(edges, Domain { dom, frames }, base, sup),
         values,
     )
 }
@@ -193,7 +193,10 @@ pub extern "C" fn s2_exact(
 {
     let span = Span::from(span);
     let domain = Domain { dom, frames };
-    answer(exact::check_exact(domain, map, span, edges), values)
+    answer(
+        exact::check_exact::<[u32; 6]>(domain, map, span, edges),
+        values,
+    )
 }
 
 // The same, from edges as records.
