@@ -1,8 +1,8 @@
--- Texts in order: alike where each is, one alone, and one more.
+-- Texts in order: alike where each is, and one alone.
 use Prim.Native.Nat.{ℕ, zero, suc, ◌+◌, ◌<◌}
 use mathlib.Core.Bool.{false}
-use mathlib.Core.List.{List, [], ◌++◌, append-nil, append_assoc}
-use mathlib.Core.Path.{◌≡◌, refl, sym, ap, ap₂, ◌∙◌}
+use mathlib.Core.List.{List, [], ◌++◌, append-nil}
+use mathlib.Core.Path.{◌≡◌, refl, ap, ap₂, ◌∙◌}
 use native.Mathlib.Omega.{arith}
 use lib.Dec.{eqb}
 use borrow.Author.Tests.{ne_eqb}
@@ -26,17 +26,3 @@ pub alone_all : (line : List ℕ) (n : ℕ) → 0 < n → in_order (λ i. alone 
 unfolding in_order
 alone_all line zero h = absurd (omega (arith, h))
 alone_all line (suc n) h = ap (λ (rest : List ℕ). line ++ rest) (none_later line 0 n) ∙ append-nil line
-
-next_text : (text : ℕ → List ℕ) (k n : ℕ) → in_order text k (suc n) ≡ in_order text k n ++ text (k + n)
-unfolding in_order
-next_text text k zero = let none : k ≡ k + 0 = omega arith in append-nil (text k) ∙ ap text none
-next_text text k (suc n) =
-    let next : suc k + n ≡ k + suc n = omega arith in
-    ap (λ zs. text k ++ zs) (next_text text (suc k) n ∙ ap (λ i. in_order text (suc k) n ++ text i) next)
-    ∙ sym (append_assoc (text k) (in_order text (suc k) n) (text (k + suc n)))
-
-pub one_more : (text : ℕ → List ℕ) (n : ℕ) → in_order text 0 (n + 1) ≡ in_order text 0 n ++ text n
-one_more text n =
-    let one : n + 1 ≡ suc n = omega arith in
-    let none : 0 + n ≡ n = omega arith in
-    ap (in_order text 0) one ∙ next_text text 0 n ∙ ap (λ i. in_order text 0 n ++ text i) none

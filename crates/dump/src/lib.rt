@@ -1,10 +1,9 @@
 // What is printed of a scene (document 01, "Proved and printed").
 #![tactic(auto)]
 
-ghost use Rattle.std.specs.Fmt.{WritesOnOk};
-ghost use Rattle.std.specs.Prelude.{◌≡◌, replicate, Some, Ok};
+ghost use Rattle.std.specs.Prelude.{◌≡◌, replicate, get_or};
 ghost use Rattle.dump.specs.Dump.{line_at, printed_read};
-ghost use Rattle.dump.specs.Pieces.{pieces};
+ghost use Rattle.dump.specs.Pieces.{piece_at, pieces};
 ghost use Rattle.dump.specs.declared.Undumped.TheVariants.{BadLine as BadLineOf, Refused};
 ghost use Rattle.layout.specs.Size.{arena_length};
 ghost use Rattle.refusal.specs.Outcome.{row_of};
@@ -16,7 +15,6 @@ use lent_rows::Maps;
 use printed::Line;
 use refusal::Refusal;
 use scene_text::BadLine;
-use std::fmt;
 
 // Why no words are printed.
 #[derive(Clone, Copy)]
@@ -84,38 +82,29 @@ fn encoded(
     Ok(())
 }
 
-impl fmt::Display for Dump {
-    ghost output = { λ dump. Some (pieces dump.answer dump.words) };
-
-    #[tactic(auto, using(crate::proofs::Whole::bad_pieces, crate::proofs::Whole::refused_pieces), unfolding(printed::specs::Text::line_text))]
-    fn fmt<W: fmt::Write>(&self, f: &mut fmt::Formatter<W>) -> fmt::Result {
-        match self.answer {
-            Ok(()) => write_words(&self.words, f),
-            Err(Undumped::BadLine) => write!(f, "{}", Line::Bad),
-            Err(Undumped::Refused(number)) => write!(f, "{}", Line::Refused(number)),
-        }
+// The piece of one word: a line, or nothing.
+#[tactic(auto, unfolding(crate::specs::Pieces::piece_at))]
+pub fn piece(answer: Result<(), Undumped>, words: &[u64], i: usize) -> Line
+    ensures { result ≡ piece_at answer words.now i }
+{
+    match answer {
+        Ok(()) => word_piece(words, i),
+        Err(_) if i != 0 => Line::new(),
+        Err(Undumped::BadLine) => Line::bad(),
+        Err(Undumped::Refused(number)) => Line::refused(number),
     }
 }
 
-// In table and index order.
-fn write_words<W: fmt::Write>(words: &[u64], f: &mut fmt::Formatter<W>) -> fmt::Result
-    ensures { WritesOnOk W.write_str_gives f.old result (pieces (Ok tt) words.now) f.new }
+// A word past the last is 0, and has no line.
+#[tactic(auto, unfolding(crate::specs::Dump::line_at))]
+fn word_piece(words: &[u64], i: usize) -> Line
+    ensures { result ≡ line_at i (get_or words.now i 0) }
 {
-    for (i, word) in words.iter().enumerate() {
-        write_word(i, *word, f)?;
-    }
-    Ok(())
-}
-
-// A word that is 0 has no line.
-#[tactic(auto, unfolding(crate::specs::Dump::line_at, printed::specs::Text::line_text))]
-fn write_word<W: fmt::Write>(i: usize, word: u64, f: &mut fmt::Formatter<W>) -> fmt::Result
-    ensures { WritesOnOk W.write_str_gives f.old result (line_at i word) f.new }
-{
+    let word = words.get(i).copied().unwrap_or(0);
     if word == 0 {
-        return Ok(());
+        return Line::new();
     }
     let table = (i / Layout::ENTRIES) as u64 + 1;
     let index = (i % Layout::ENTRIES) as u64;
-    write!(f, "{}", Line::Word { table, index, word })
+    Line::word(table, index, word)
 }

@@ -1,33 +1,134 @@
 // The lines that the dump prints (document 01, "Proved and printed").
 #![tactic(auto)]
 
-ghost use Rattle.std.specs.Prelude.{Some};
-ghost use Rattle.printed.specs.Text.{line_text};
+ghost use Rattle.std.specs.Prelude.{ℕ, ◌+◌, ◌%◌, ◌≤◌, ◌≡◌, List, [], ◌++◌, length, take, drop};
+ghost use Rattle.printed.specs.Line.{bad_line, refused_line, decimal};
+ghost use Rattle.printed.specs.Word.{word_line};
+ghost use Rattle.printed.specs.declared.TheConstants.{LINE};
+ghost use Rattle.text.specs.Digits.{digits};
 
-use std::fmt;
+use std::marker::Model;
 
-#[derive(Clone, Copy)]
-pub enum Line {
-    // Where a line of the scene says nothing.
-    Bad,
-    // A refused scene, by the row's number.
-    Refused(u64),
-    // A word of a table, by its table and index.
-    Word { table: u64, index: u64, word: u64 },
+// The longest line: REFUSED, a space, 20 digits and a line feed.
+const LINE: usize = 29;
+
+// The most digits of a number.
+const DIGITS: usize = 20;
+
+// A line, or the first bytes of one.
+#[derive(Drop)]
+pub struct Line {
+    bytes: [u8; LINE],
+    len: usize,
 }
 
-impl fmt::Display for Line {
-    ghost output = { λ line. Some (line_text line) };
+impl Model for Line {
+    ghost Value = { List ℕ };
 
-    // A table has 1 digit, and an index 3.
-    #[tactic(auto, using(crate::proofs::Digits::written), unfolding(crate::specs::Text::line_text, crate::specs::Line::bad_line, crate::specs::Line::refused_line, crate::specs::Word::word_line))]
-    fn fmt<W: fmt::Write>(&self, f: &mut fmt::Formatter<W>) -> fmt::Result {
-        match *self {
-            Line::Bad => writeln!(f, "BAD LINE"),
-            Line::Refused(number) => writeln!(f, "REFUSED {number}"),
-            Line::Word { table, index, word } => {
-                writeln!(f, "{:X} {:03X} {:016X}", table % 16, index % 4096, word)
-            }
+    ghost view = { λ line. take line.len line.bytes };
+
+    ghost invariant = { λ line. line.len ≤ LINE };
+}
+
+impl Line {
+    // Where nothing is printed.
+    pub fn new() -> Self
+        ensures { result ≡ [] }
+    {
+        Self {
+            bytes: [0; LINE],
+            len: 0,
         }
     }
+
+    // Where a line of the scene says nothing.
+    #[tactic(auto, unfolding(crate::specs::Line::bad_line))]
+    pub fn bad() -> Self
+        ensures { result ≡ bad_line }
+    {
+        let mut line = Self::new();
+        line.put(b"BAD LINE\n");
+        line
+    }
+
+    // A refused scene, by the row's number.
+    #[tactic(auto, using(crate::proofs::Decimal::few_digits), unfolding(crate::specs::Line::refused_line))]
+    pub fn refused(number: u64) -> Self
+        ensures { result ≡ refused_line number }
+    {
+        let mut digits = [0; DIGITS];
+        let first = spell_decimal(number, &mut digits);
+        let mut line = Self::new();
+        line.put(b"REFUSED ");
+        line.put(&digits[first..]);
+        line.put(b"\n");
+        line
+    }
+
+    // A word of a table, by its table and index.
+    #[tactic(auto, unfolding(crate::specs::Word::word_line))]
+    pub fn word(table: u64, index: u64, word: u64) -> Self
+        ensures { result ≡ word_line table index word }
+    {
+        let mut line = Self::new();
+        line.put_hex(table, 1);
+        line.put(b" ");
+        line.put_hex(index, 3);
+        line.put(b" ");
+        line.put_hex(word, 16);
+        line.put(b"\n");
+        line
+    }
+
+    pub fn as_slice(&self) -> &[u8]
+        ensures short { length result.now ≤ LINE }
+        ensures bytes { result.now ≡ self.now }
+    {
+        &self.bytes[..self.len]
+    }
+
+    // A text after the bytes that there are.
+    #[tactic(auto, using(std::proofs::lemmas::Slice::overwrites))]
+    fn put(&mut self, text: &[u8])
+        requires { length self.old + length text.now ≤ LINE }
+        ensures { self.new ≡ self.old ++ text.now }
+    {
+        let end = self.len + text.len();
+        self.bytes[self.len..end].copy_from_slice(text);
+        self.len = end;
+    }
+
+    // The last hexadecimal digits of a number.
+    #[tactic(auto, using(std::proofs::lemmas::Slice::overwrites))]
+    fn put_hex(&mut self, number: u64, width: usize)
+        requires { length self.old + width ≤ LINE }
+        ensures { self.new ≡ self.old ++ digits width number }
+    {
+        let end = self.len + width;
+        text::spell(number, &mut self.bytes[self.len..end]);
+        self.len = end;
+    }
+}
+
+// A number's decimal digits, at the end of the buffer; returns the index of the first.
+#[tactic(auto, using(crate::proofs::Decimal::decimals, std::proofs::lemmas::Grind::common_steps))]
+fn spell_decimal(number: u64, out: &mut [u8; DIGITS]) -> usize
+    ensures within { result ≤ DIGITS }
+    ensures digits { drop result out.new ≡ decimal DIGITS number }
+{
+    let mut rest = number;
+    for at in (0..DIGITS).rev() {
+        out[at] = last_digit(rest);
+        if rest < 10 {
+            return at;
+        }
+        rest /= 10;
+    }
+    0
+}
+
+fn last_digit(number: u64) -> u8
+    ensures { result ≡ 0x30 + number % 10 }
+{
+    b'0' + (number % 10) as u8
 }

@@ -17,5 +17,7 @@ fn print_text<R: Read, W: Write>(input: &mut R, output: &mut W) -> io::Result<()
     ensures { OnOk result (WritesText annex_text (R.remaining input.old) (W.contents output.old) (W.contents output.new)) }
 {
     let s = scene_read::read_all(input)?;
-    annex_text::write_annex(s.read, &s.numbers, &s.base, &s.sup, output)
+    let mut page = [0; annex::LONGEST];
+    let len = annex_text::print(s.read, &s.numbers, &s.base, &s.sup, &mut page);
+    output.write_all(&page[..len])
 }
