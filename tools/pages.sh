@@ -59,7 +59,7 @@ listed=$(subjects | cut -d ' ' -f 2- | tr ' ' '\n' | sort)
 verification() {
     cat crates/verify*/src/*.rt | awk '/^ *(requires|ensures) / { clause = 1 } /^ *\{$/ { clause = 0 } !clause' | grep -vE '^ *//|ghost use|^ *#'
 }
-if verification | sed -E 's/&\[(u64|u8)\]//g; s/\b(arena|base|sup)\[//g' | grep -F '['; then
+if verification | sed -E "s/&('a )?\[(u64|u8)\]//g; s/\b(arena|base|sup)\[//g" | grep -F '['; then
     echo "verification has an array"
     exit 1
 fi
