@@ -70,7 +70,7 @@ impl Frames<'_> {
         let word = Word::at(self.arena, 4, m);
         let pa = arena::page_address(self.layout.data_pa_base, m);
         let want = verify_read::wanted_leaf(self.entry_at(m), pa, false);
-        word.leaf(m, verify_read::read_page(word.desc), want)
+        word.leaf(m.into(), verify_read::read_page(word.desc), want)
     }
 
     #[tactic(auto, using(crate::proofs::Emitted::block_none), unfolding(verify_rows::specs::Verifying::super_row))]
@@ -92,7 +92,7 @@ impl Frames<'_> {
         let word = Word::at(self.arena, 5, super_index(l.sup_ipa_base, m));
         let pa = arena::block_address(l.sup_pa_base, m);
         let want = verify_read::wanted_leaf(self.entry_at(m), pa, l.sup_wx_exempt);
-        word.leaf(m, verify_read::read_block(word.desc), want)
+        word.leaf(m.into(), verify_read::read_block(word.desc), want)
     }
 
     fn entry_at(self, m: u32) -> u8

@@ -15,8 +15,8 @@ use refusal::Refusal;
 // A word of the arena, and where it stands.
 #[derive(Clone, Copy)]
 pub struct Word {
-    pub table: u32,
-    pub index: u32,
+    pub table: u64,
+    pub index: u64,
     pub desc: u64,
 }
 
@@ -25,8 +25,8 @@ impl Word {
         ensures { result ≡ record { table = table; index = index; desc = word arena.now table index } }
     {
         Word {
-            table,
-            index,
+            table: table.into(),
+            index: index.into(),
             desc: verify_read::table_word(arena, table, index),
         }
     }
@@ -42,8 +42,8 @@ impl Word {
             return Ok(());
         }
         Err(Refusal::BadTableEntry {
-            table: self.table as u64,
-            index: self.index as u64,
+            table: self.table,
+            index: self.index,
             found,
             expected,
         })
@@ -71,7 +71,7 @@ impl Word {
     #[tactic(auto, unfolding(verify_rows::specs::Word::leaf_row, refusal::specs::Table::first))]
     pub fn leaf(
         self,
-        mfn: u32,
+        mfn: u64,
         found: Option<Decoded>,
         want: Option<Decoded>,
     ) -> Result<(), Refusal>
@@ -82,7 +82,7 @@ impl Word {
         }
         match want {
             Some(_) => Err(Refusal::BadLeaf {
-                mfn: mfn as u64,
+                mfn,
                 found,
                 expected: want,
             }),
@@ -100,7 +100,7 @@ impl Word {
         }
         match want {
             Some(_) => Err(Refusal::BadDeviceBlock {
-                index: self.index as u64,
+                index: self.index,
                 desc: self.desc,
             }),
             None => Err(self.spurious()),
@@ -112,8 +112,8 @@ impl Word {
         ensures { result ≡ SpuriousDescriptor self.table self.index self.desc }
     {
         Refusal::SpuriousDescriptor {
-            table: self.table as u64,
-            index: self.index as u64,
+            table: self.table,
+            index: self.index,
             desc: self.desc,
         }
     }
