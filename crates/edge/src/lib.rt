@@ -1,4 +1,4 @@
-// Page-table edges as records (hv-s2's leafmap.rs), what one of them says, and the domain that it may count for.
+// Page-table edges as records (hv-s2's leafmap.rs), and what one of them says.
 #![tactic(auto)]
 
 ghost use Rattle.std.specs.Prelude.{◌≡◌};
@@ -51,25 +51,17 @@ impl Edge {
 
     // Only leaves map a frame, and only those of tables that the domain owns map it for the domain.
     #[tactic(auto, unfolding(crate::specs::Edge::counts))]
-    pub fn counts(self, domain: Domain<'_>) -> bool
-        ensures { let d = domain.entry in result ≡ counts d.frames.now d.dom self }
+    pub fn counts(self, frames: &[[u32; 2]], dom: u16) -> bool
+        ensures { result ≡ counts frames.now dom self }
     {
-        self.leaf && domain.owns(self.parent)
+        self.leaf && owns(frames, self.parent, dom)
     }
 }
 
-// A domain by its number, and the frames that it may own: rows of owner number and kind.
-#[derive(Clone, Copy)]
-pub struct Domain<'a> {
-    pub dom: u16,
-    pub frames: &'a [[u32; 2]],
-}
-
-impl Domain<'_> {
-    #[tactic(auto, unfolding(crate::specs::Edge::owns))]
-    pub fn owns(self, mfn: u32) -> bool
-        ensures { let d = self.entry in result ≡ owns d.frames.now d.dom mfn }
-    {
-        p2m::owner_of(self.frames, mfn) == Some(self.dom)
-    }
+// Whether the domain owns the frame.
+#[tactic(auto, unfolding(crate::specs::Edge::owns))]
+pub fn owns(frames: &[[u32; 2]], mfn: u32, dom: u16) -> bool
+    ensures { result ≡ owns frames.now dom mfn }
+{
+    p2m::owner_of(frames, mfn) == Some(dom)
 }

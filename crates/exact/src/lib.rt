@@ -8,23 +8,24 @@ ghost use Rattle.exact.specs.Exact.{row25, compared_rows, exact_rows};
 ghost use Rattle.refusal.specs.Outcome.{outcome_of};
 ghost use Rattle.refusal.specs.Table.{first, each_from};
 
-use edge::{Domain, Edge};
+use edge::Edge;
 use layout::Layout;
 use p2m::Span;
 use refusal::{Refusal, first};
 
 // Each entry is that of the last edge into its frame. Edges are records, or rows of their six fields.
 pub fn check_exact<E: Copy + Into<Edge>>(
-    domain: Domain<'_>,
+    dom: u16,
     leaves: &[u8],
     span: Span,
     edges: &[E],
+    frames: &[[u32; 2]],
 ) -> Result<(), Refusal>
-    ensures { let d = domain.entry in (read : E → Edge) → Reads E.converts read
-        → outcome_of result ≡ first (exact_rows d.frames.now d.dom span (map read edges.now) leaves.now) }
+    ensures { (read : E → Edge) → Reads E.converts read
+        → outcome_of result ≡ first (exact_rows frames.now dom span (map read edges.now) leaves.now) }
 {
-    let wanted = expected::expected_entries(domain, span, edges);
-    compare(domain.dom, leaves, span, &wanted)
+    let wanted = expected::expected_entries(dom, span, edges, frames);
+    compare(dom, leaves, span, &wanted)
 }
 
 // Rows 2, 3 and 25: whether the map holds the entries wanted.

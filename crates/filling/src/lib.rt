@@ -6,7 +6,7 @@ ghost use Rattle.filling.specs.Filling.{filling, put, put_in, placed, started};
 ghost use Rattle.refusal.specs.Outcome.{outcome_of};
 ghost use Rattle.refusal.specs.Table.{accepted};
 
-use edge::{Domain, Edge};
+use edge::Edge;
 use lent_rows::Maps;
 use p2m::Span;
 use refusal::Refusal;
@@ -24,14 +24,20 @@ pub fn start(base: &mut [u8], sup: &mut [u8]) -> Result<(), Refusal>
 
 // One edge: the span is its parent's, since a frame does not know how much of the address space maps it.
 #[tactic(auto, unfolding(crate::specs::Filling::placed))]
-pub fn place(e: Edge, domain: Domain<'_>, base: &mut [u8], sup: &mut [u8]) -> Result<(), Refusal>
-    ensures { let d = domain.entry in filling base.new sup.new (outcome_of result)
-        ≡ placed d.frames.now d.dom (filling base.old sup.old accepted) e }
+pub fn place(
+    e: Edge,
+    frames: &[[u32; 2]],
+    dom: u16,
+    base: &mut [u8],
+    sup: &mut [u8],
+) -> Result<(), Refusal>
+    ensures { filling base.new sup.new (outcome_of result)
+        ≡ placed frames.now dom (filling base.old sup.old accepted) e }
 {
-    if !e.counts(domain) {
+    if !e.counts(frames, dom) {
         return Ok(());
     }
-    let span = p2m::span_of_table(domain.frames, e.parent).ok_or(Refusal::UnsupportedSpan {
+    let span = p2m::span_of_table(frames, e.parent).ok_or(Refusal::UnsupportedSpan {
         parent: e.parent as u64,
     })?;
     match span {

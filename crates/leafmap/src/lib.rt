@@ -7,23 +7,24 @@ ghost use Rattle.edge.specs.declared.Edge.{Edge};
 ghost use Rattle.filling.specs.Filling.{filling, filled};
 ghost use Rattle.refusal.specs.Outcome.{outcome_of};
 
-use edge::{Domain, Edge};
+use edge::Edge;
 use refusal::Refusal;
 
 // The leaves of the domain's tables, from edges or from rows of their six fields. Conflicts are looked for last.
 pub fn leaf_map_from_edges<E: Copy + Into<Edge>>(
     edges: &[E],
-    domain: Domain<'_>,
+    frames: &[[u32; 2]],
+    dom: u16,
     base: &mut [u8],
     sup: &mut [u8],
 ) -> Result<(), Refusal>
-    ensures { let d = domain.entry in (read : E → Edge) → Reads E.converts read
+    ensures { (read : E → Edge) → Reads E.converts read
         → filling base.new sup.new (outcome_of result)
-        ≡ filled d.frames.now d.dom (map read edges.now) base.old sup.old }
+        ≡ filled frames.now dom (map read edges.now) base.old sup.old }
 {
     filling::start(base, sup)?;
     for e in edges {
-        filling::place((*e).into(), domain, base, sup)?;
+        filling::place((*e).into(), frames, dom, base, sup)?;
     }
     conflict::no_conflict(base, sup)
 }

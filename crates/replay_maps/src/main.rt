@@ -3,7 +3,6 @@
 // filling with both maps, and must be the Rust's, which are the expected output.
 #![tactic(auto)]
 
-use edge::Domain;
 use p2m::Span;
 use refusal::Refusal;
 use std::io;
@@ -71,26 +70,25 @@ impl Call {
             1 => self.fill(output),
             2 => print_answer(
                 output,
-                authority::check_authorized_with(self.domain(), &self.base, &self.grants),
+                authority::check_authorized_with(self.dom, &self.base, &self.frames, &self.grants),
             ),
             _ => print_answer(
                 output,
-                exact::check_exact(self.domain(), &self.base, self.span, &self.edges),
+                exact::check_exact(self.dom, &self.base, self.span, &self.edges, &self.frames),
             ),
-        }
-    }
-
-    fn domain(&self) -> Domain<'_> {
-        Domain {
-            dom: self.dom,
-            frames: &self.frames,
         }
     }
 
     fn fill<W: Write>(&self, output: &mut W) -> io::Result<()> {
         let mut base = self.base;
         let mut sup = self.sup;
-        let answer = leafmap::leaf_map_from_edges(&self.edges, self.domain(), &mut base, &mut sup);
+        let answer = leafmap::leaf_map_from_edges(
+            &self.edges,
+            &self.frames,
+            self.dom,
+            &mut base,
+            &mut sup,
+        );
         print_answer(output, answer)?;
         replay_lines::print_line(output, &base.map(u64::from))?;
         replay_lines::print_line(output, &sup.map(u64::from))

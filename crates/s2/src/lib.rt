@@ -8,7 +8,7 @@ ghost use Rattle.refusal.specs.Told.{told_of, told_words};
 ghost use Rattle.s2.specs.Answers.{validate_answer, fill_answer, EncodeAnswer, StepAnswer, walk_answer, verify_answer, exposed_answer};
 ghost use Rattle.s2.specs.Answers.{PageAnswer, authorized_answer, exact_answer};
 
-use edge::{Domain, Edge};
+use edge::Edge;
 use layout::Layout;
 use lent_rows::Maps;
 use p2m::Span;
@@ -39,7 +39,7 @@ pub extern "C" fn s2_fill(
         ≡ fill_answer (edges_of edges.now) frames.now dom base.old sup.old }
 {
     answer(
-        leafmap::leaf_map_from_edges::<[u32; 6]>(edges, Domain { dom, frames }, base, sup),
+        leafmap::leaf_map_from_edges::<[u32; 6]>(edges, frames, dom, base, sup),
         values,
     )
 }
@@ -58,7 +58,7 @@ pub extern "C" fn s2_fill_edges(
         ≡ fill_answer edges.now frames.now dom base.old sup.old }
 {
     answer(
-        leafmap::leaf_map_from_edges(edges, Domain { dom, frames }, base, sup),
+        leafmap::leaf_map_from_edges(edges, frames, dom, base, sup),
         values,
     )
 }
@@ -173,7 +173,7 @@ pub extern "C" fn s2_authorized(
     ensures { (result ∷ values.new) ≡ authorized_answer dom map.now frames.now grants.now }
 {
     answer(
-        authority::check_authorized_with(Domain { dom, frames }, map, grants),
+        authority::check_authorized_with(dom, map, frames, grants),
         values,
     )
 }
@@ -192,9 +192,8 @@ pub extern "C" fn s2_exact(
         ≡ exact_answer dom map.now span (edges_of edges.now) frames.now }
 {
     let span = Span::from(span);
-    let domain = Domain { dom, frames };
     answer(
-        exact::check_exact::<[u32; 6]>(domain, map, span, edges),
+        exact::check_exact::<[u32; 6]>(dom, map, span, edges, frames),
         values,
     )
 }
@@ -212,8 +211,7 @@ pub extern "C" fn s2_exact_edges(
     ensures { (result ∷ values.new) ≡ exact_answer dom map.now span edges.now frames.now }
 {
     let span = Span::from(span);
-    let domain = Domain { dom, frames };
-    answer(exact::check_exact(domain, map, span, edges), values)
+    answer(exact::check_exact(dom, map, span, edges, frames), values)
 }
 
 // The number, and the values.

@@ -13,5 +13,5 @@ returns-then-all_within c =
 pub returns : goal.returns
 returns c =
     let a = c.args in
-    c.each_from.ensures (by_most a.domain.frames.now a.domain.dom c.widest_entries-widest.result) (λ m x r post. search rules)
+    c.each_from.ensures (by_most a.frames.now a.dom c.widest_entries-widest.result) (λ m x r post. search rules)
     ∙ ap first (held_all _ _ _ _ _ (λ m inside. c.widest_entries-widest.ensures m (omega (arith, inside, c.requires))))

@@ -10,5 +10,5 @@ loop-m-init c = record { long = refl; written = λ j h. absurd (omega (arith, h)
 
 pub returns : goal.returns
 returns c =
-    own_all c.args.domain.frames.now c.args.domain.dom c.min.result c.loop-m.m c.loop-m.widest c.min.ensures c.loop-m-test.false
+    own_all c.args.frames.now c.args.dom c.min.result c.loop-m.m c.loop-m.widest c.min.ensures c.loop-m-test.false
     c.loop-m.invariant.written c.loop-m.invariant.blank c.loop-m.auto.m-end

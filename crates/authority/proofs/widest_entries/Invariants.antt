@@ -6,4 +6,4 @@ use Rattle.grant.specs.Grant.{grant_of}
 use Rattle.authority.proofs.widest_entries.Given as goal
 
 abbrev pub invariant-loop-g : goal.invariant-loop-g
-invariant-loop-g l = l.widest ≡ fold (noted l.domain.frames.now l.domain.dom) l.initial.widest (map grant_of (take l.g-index l.grants))
+invariant-loop-g l = l.widest ≡ fold (noted l.frames l.dom) l.initial.widest (map grant_of (take l.g-index l.grants))

@@ -10,4 +10,4 @@ use Rattle.expected.proofs.expected_entries.Given as goal
 abbrev pub invariant-loop-e : goal.invariant-loop-e
 invariant-loop-e g l =
     (read : g.row.E.Denot → Edge) → Reads g.E.Into.converts read →
-    l.wanted ≡ fold (noted l.domain.frames.now l.domain.dom l.span) (replicate entries 0) (map read (take l.e-index l.edges))
+    l.wanted ≡ fold (noted l.frames l.dom l.span) (replicate entries 0) (map read (take l.e-index l.edges))

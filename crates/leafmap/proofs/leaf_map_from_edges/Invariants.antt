@@ -9,4 +9,4 @@ use Rattle.leafmap.proofs.leaf_map_from_edges.Given as goal
 abbrev pub invariant-loop-e : goal.invariant-loop-e
 invariant-loop-e g l =
     (read : g.row.E.Denot → Edge) → Reads g.E.Into.converts read →
-    Left read l.edges l.domain.frames.now l.domain.dom l.fn.base l.fn.sup l.e-index (filling l.base l.sup accepted)
+    Left read l.edges l.frames l.dom l.fn.base l.fn.sup l.e-index (filling l.base l.sup accepted)
