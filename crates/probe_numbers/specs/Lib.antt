@@ -4,3 +4,4 @@ pub mod Levels
 pub mod Regimes
 pub mod Registers
 pub mod Words
+pub mod Zeros

@@ -3,7 +3,7 @@ use Rattle.granule.specs.declared.Granule.{Granule}
 use Rattle.granule.specs.declared.StartLevel.{StartLevel}
 use Rattle.sizes.specs.declared.PaSize.{PaSize}
 use Rattle.std.specs.Prelude.{Option, Some, None, is_some, unwrap_or, ℕ, List, [], ◌∷◌, get_or}
-use Rattle.fields.specs.Numbers.{bit, low}
+use Rattle.fields.specs.Numbers.{eight, bit, low}
 use Rattle.granule.specs.Granule.{granule_named}
 use Rattle.granule.specs.StartLevel.{level_named}
 use Rattle.probe_numbers.specs.Granules.{width_named}
@@ -45,10 +45,10 @@ numbers_of r b =
     ∷ unwrap_or (vtcr_of r b) 0
     ∷ []
 
-abbrev pub regime_numbers : Option Stage2Regime → Option VmidBits → Option (List ℕ)
-regime_numbers (Some r) (Some b) = Some (numbers_of r b)
-regime_numbers (Some r) None = None
-regime_numbers None w = None
+abbrev pub regime_numbers : Option Stage2Regime → Option VmidBits → List ℕ
+regime_numbers (Some r) (Some b) = numbers_of r b
+regime_numbers (Some r) None = eight []
+regime_numbers None w = eight []
 
-unfoldable pub regime_answer : List ℕ → Option (List ℕ)
+unfoldable pub regime_answer : List ℕ → List ℕ
 regime_answer x = regime_numbers (regime_by_codes x) (width_named (get_or x 7 0))

@@ -9,10 +9,13 @@ use sizes::{PaSize, VmidBits};
 
 // The regime's parameters in the order of the struct, then the width of a VMID.
 #[tactic(auto, unfolding(crate::specs::Regimes::regime_answer))]
-pub fn stage2_regime(x: &[u64; 8]) -> Option<[u64; 8]>
+pub fn stage2_regime(x: &[u64; 8]) -> [u64; 8]
     ensures { result ≡ regime_answer x.now }
 {
-    Some(numbers_of(regime_named(x)?, granules::width_named(x[7])?))
+    match (regime_named(x), granules::width_named(x[7])) {
+        (Some(r), Some(b)) => numbers_of(r, b),
+        _ => [0; 8],
+    }
 }
 
 #[tactic(auto, unfolding(crate::specs::Regimes::numbers_of))]

@@ -7,10 +7,12 @@ use regime::Stage2Regime;
 use sizes::VmidBits;
 
 // One more than the width's code, so that it is not nothing, then the parameters in the order of the struct.
-pub fn decoded(named: (Stage2Regime, VmidBits)) -> [u64; 8]
-    ensures { result ≡ decoded_numbers named }
+pub fn decoded(d: Option<(Stage2Regime, VmidBits)>) -> [u64; 8]
+    ensures { result ≡ decoded_numbers d }
 {
-    let (r, b) = named;
+    let Some((r, b)) = d else {
+        return [0; 8];
+    };
     [
         b.vs() + 1,
         r.granule.tg0(),

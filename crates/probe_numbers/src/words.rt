@@ -1,6 +1,6 @@
 // perm, memtype, desc and decode by numbers.
 ghost use Rattle.std.specs.Prelude.{◌≡◌};
-ghost use Rattle.probe_numbers.specs.Words.{permission_answer, memory_named, memory_numbers, constant_numbers, word_numbers};
+ghost use Rattle.probe_numbers.specs.Words.{perm_named, perm_numbers, memory_named, memory_numbers, constant_numbers, word_numbers};
 ghost use Rattle.probe_numbers.specs.Words.{leaf_numbers, table_numbers, device_numbers};
 
 use crate::eight;
@@ -8,22 +8,24 @@ use decode::{Decoded, DecodedDevice};
 use memtype::MemoryType;
 
 // A permission by its code, and the exemption.
-pub fn permission(code: u64, wx_exempt: bool) -> Option<[u64; 8]>
-    ensures { result ≡ permission_answer code wx_exempt }
+pub fn permission(code: u64, wx_exempt: bool) -> [u64; 8]
+    ensures { result ≡ perm_numbers (perm_named code) wx_exempt }
 {
-    let perm = perm::entry_named(u8::try_from(code).ok()?)?;
+    let Some(perm) = u8::try_from(code).ok().and_then(perm::entry_named) else {
+        return [0; 8];
+    };
     let leaf = desc::leaf_access_xn(perm, wx_exempt);
-    Some(eight([
+    eight([
         perm.writable().into(),
         perm.executable().into(),
         desc::page_leaf_attrs(perm),
         desc::block_leaf_attrs(perm, wx_exempt),
         leaf.access.code().into(),
         leaf.xn.into(),
-    ]))
+    ])
 }
 
-pub fn memory_named(code: u64) -> Option<MemoryType>
+fn memory_named(code: u64) -> Option<MemoryType>
     ensures { result ≡ memory_named code }
 {
     match code {
@@ -34,9 +36,12 @@ pub fn memory_named(code: u64) -> Option<MemoryType>
     }
 }
 
-pub fn memory_type(t: MemoryType) -> [u64; 8]
-    ensures { result ≡ memory_numbers t }
+pub fn memory_type(code: u64) -> [u64; 8]
+    ensures { result ≡ memory_numbers code }
 {
+    let Some(t) = memory_named(code) else {
+        return [0; 8];
+    };
     eight([
         1,
         t.stage1_mair_byte().into(),
@@ -75,20 +80,29 @@ pub fn words() -> [u64; 8]
     ]
 }
 
-pub fn leaf(d: Decoded) -> [u64; 8]
-    ensures { result ≡ leaf_numbers d }
+pub fn leaf(l: Option<Decoded>) -> [u64; 8]
+    ensures { result ≡ leaf_numbers l }
 {
+    let Some(d) = l else {
+        return [0; 8];
+    };
     eight([1, d.pa, d.perm.code().into(), d.xn.into()])
 }
 
-pub fn table(pa: u64) -> [u64; 8]
-    ensures { result ≡ table_numbers pa }
+pub fn table(t: Option<u64>) -> [u64; 8]
+    ensures { result ≡ table_numbers t }
 {
+    let Some(pa) = t else {
+        return [0; 8];
+    };
     eight([1, pa])
 }
 
-pub fn device(d: DecodedDevice) -> [u64; 8]
-    ensures { result ≡ device_numbers d }
+pub fn device(b: Option<DecodedDevice>) -> [u64; 8]
+    ensures { result ≡ device_numbers b }
 {
+    let Some(d) = b else {
+        return [0; 8];
+    };
     eight([1, d.pa, d.xn.into()])
 }

@@ -1,7 +1,7 @@
 // The lines of a record: numbers of 16 lower-case hexadecimal digits, one byte after each.
 #![tactic(auto)]
 
-ghost use Rattle.std.specs.Prelude.{◌<◌, ◌≡◌};
+ghost use Rattle.std.specs.Prelude.{◌<◌, ◌≡◌, Bool, true};
 ghost use Rattle.replay_lines.specs.Bytes.{bytes_of};
 
 use std::io;
@@ -17,6 +17,11 @@ pub fn each_line<R: Read, W: Write, F: FnMut(&mut R, &mut W) -> io::Result<bool>
     mut replay: F,
 ) -> io::Result<()>
     requires { F.IsAlwaysCallable replay }
+    ensures { (kept : F → R → W → Bool)
+        → ((f : F) (i : _) (o : _) (r : _) (j : _) (p : _) (g : F)
+        → F.step f i o r j p g → kept f i.now o.now ≡ true → kept g j.now p.now ≡ true)
+        → kept replay input.old output.old ≡ true
+        → (last : F) × (kept last input.new output.new ≡ true) }
 {
     for _ in 0..LINES {
         if !replay(input, output)? {
