@@ -4,14 +4,10 @@ use Rattle.decode.proofs.Fields.{has_type, not_type}
 use Rattle.descent.specs.Descent.{words_of, fetch}
 use Rattle.judge_translation.proofs.Outputs.{table_named, page_output, block_output, large_output}
 use Rattle.judge_translation.specs.Answer.{elsewhere_of}
-use Rattle.judge_translation.specs.Asked.{access_of, level_of}
+use Rattle.judge_translation.specs.Asked.{access_of, level_of, size_of}
 use Rattle.judge_translation.specs.declared.Translation.{Translation}
 use Rattle.layout.specs.Size.{entries, page, block, l1_span, output_limit}
 use Rattle.manual.specs.Translation.{Translated, fault, leaf, level1, level2, level3}
-
--- what an entry maps that has so many levels below it
-abbrev pub size_of : ℕ → ℕ
-size_of left = get_or (page ∷ block ∷ l1_span ∷ []) left 0
 
 -- the word of the table named
 abbrev pub word_of : Translation → ℕ → ℕ → ℕ

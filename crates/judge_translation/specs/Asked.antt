@@ -1,5 +1,6 @@
 -- How the code carries what is asked: an access, and a translation with all that answers it.
-use Rattle.std.specs.Prelude.{ℕ, zero, suc, List}
+use Rattle.std.specs.Prelude.{ℕ, zero, suc, List, [], ◌∷◌, get_or}
+use Rattle.layout.specs.Size.{page, block, l1_span}
 use Rattle.descent.specs.Descent.{Words, words_of}
 use Rattle.judge_translation.specs.Answer.{machine_of}
 use Rattle.judge_translation.specs.declared.Access.{Access}
@@ -25,3 +26,7 @@ level_of t (suc (suc left)) = of_asked level1 t
 
 abbrev pub translated : Translation → Translated
 translated t = of_asked translation t
+
+-- what an entry maps that has so many levels below it
+abbrev pub size_of : ℕ → ℕ
+size_of left = get_or (page ∷ block ∷ l1_span ∷ []) left 0

@@ -6,7 +6,7 @@ ghost use Rattle.std.specs.Prelude.{◌≤◌, ◌<◌, ◌∷◌, ◌≡◌, If
 ghost use Rattle.std.specs.List.{find};
 ghost use Rattle.descent.specs.Descent.{words_of, fetch};
 ghost use Rattle.judge_translation.specs.Answer.{is_at, elsewhere_of, access_numbered, translated_of, translation_answer};
-ghost use Rattle.judge_translation.specs.Asked.{access_of, level_of, translated};
+ghost use Rattle.judge_translation.specs.Asked.{access_of, level_of, size_of, translated};
 ghost use Rattle.layout.specs.Size.{entries, table_count};
 ghost use Rattle.manual.specs.Translation.{permits, leaf};
 
@@ -83,8 +83,8 @@ impl From<u32> for Access {
 
 impl Translation<'_> {
     #[tactic(auto, unfolding(manual::specs::Translation::translation))]
-    fn translate(self) -> Option<u64>
-        ensures { translated_of result ≡ translated self.entry }
+    fn translate(&self) -> Option<u64>
+        ensures { translated_of result ≡ translated self.now }
     {
         if Layout::ADDRESSABLE <= self.ipa {
             return None;
@@ -92,13 +92,14 @@ impl Translation<'_> {
         self.level(2, self.tables[0])
     }
 
-    // From the table named, with `left` levels below its own: a page at level 3, above it a table or a block.
+    // From the table named, with `left` levels below its own: a page at level 3, above it a table or a block. By a reference, so that the
+    // compiler makes a loop of the recursion.
     #[tactic(auto, using(crate::proofs::Levels::steps))]
-    fn level(self, left: usize, named: u64) -> Option<u64>
+    fn level(&self, left: usize, named: u64) -> Option<u64>
         requires { left ≤ 2 }
-        ensures { translated_of result ≡ level_of self.entry left named }
+        ensures { translated_of result ≡ level_of self.now left named }
     {
-        let size = [Layout::PAGE_SIZE, Layout::BLOCK_SIZE, Layout::L1_ENTRY_SIZE][left];
+        let size = size_of(left);
         let d = self.lookup(named, (self.ipa / size % Layout::INDICES) as usize);
         let output = d % Layout::OUTPUT_LIMIT;
         match (left, d % 4) {
@@ -113,16 +114,16 @@ impl Translation<'_> {
     }
 
     // The access flag clear faults, and so does an access that is not permitted.
-    fn leaf(self, output: u64, d: u64) -> Option<u64>
+    fn leaf(&self, output: u64, d: u64) -> Option<u64>
         ensures { translated_of result
-            ≡ leaf self.entry.xnx (access_of self.entry.access) output d }
+            ≡ leaf self.now.xnx (access_of self.now.access) output d }
     {
         (d / desc::AF % 2 == 1 && self.permits(d)).then_some(output)
     }
 
     // S2AP's bit 6 reads, bit 7 writes; XN, bit 54, is set where EL0 does not execute, and where EL1 does not without FEAT_XNX.
-    fn permits(self, d: u64) -> bool
-        ensures { result ≡ permits self.entry.xnx (access_of self.entry.access) d }
+    fn permits(&self, d: u64) -> bool
+        ensures { result ≡ permits self.now.xnx (access_of self.now.access) d }
     {
         let never = d / desc::XN % 2;
         match self.access {
@@ -135,10 +136,10 @@ impl Translation<'_> {
 
     // A word of the first table whose address is the one named; else of the first place.
     #[tactic(auto, using(descent::proofs::Fetch::fetch_by_position))]
-    fn lookup(self, named: u64, index: usize) -> u64
+    fn lookup(&self, named: u64, index: usize) -> u64
         requires { index < entries }
-        ensures { result ≡ fetch (elsewhere_of self.entry.places.now named index)
-            self.entry.tables.now (words_of self.entry.arena.now) named index }
+        ensures { result ≡ fetch (elsewhere_of self.now.places.now named index)
+            self.now.tables.now (words_of self.now.arena.now) named index }
     {
         match table_named(self.tables, named) {
             Some(t) => verify_read::word_at(self.arena, t * Layout::ENTRIES + index),
@@ -147,8 +148,8 @@ impl Translation<'_> {
     }
 
     #[tactic(auto, using(crate::proofs::Places::elsewhere_found))]
-    fn elsewhere(self, named: u64, index: u64) -> u64
-        ensures { result ≡ elsewhere_of self.entry.places.now named index }
+    fn elsewhere(&self, named: u64, index: u64) -> u64
+        ensures { result ≡ elsewhere_of self.now.places.now named index }
     {
         match place_named(self.places, named, index) {
             Some(place) => place[2],
@@ -162,6 +163,18 @@ fn table_named(tables: &[u64; Layout::TABLES], named: u64) -> Option<usize>
     ensures upper_bound { IfSome result (λ t. t < table_count) }
 {
     tables.iter().position(|pa| *pa == named)
+}
+
+// What an entry maps that has so many levels below it.
+fn size_of(left: usize) -> u64
+    requires { left ≤ 2 }
+    ensures { result ≡ size_of left }
+{
+    match left {
+        0 => Layout::PAGE_SIZE,
+        1 => Layout::BLOCK_SIZE,
+        _ => Layout::L1_ENTRY_SIZE,
+    }
 }
 
 fn place_named(places: &[[u64; 3]], named: u64, index: u64) -> Option<[u64; 3]>
