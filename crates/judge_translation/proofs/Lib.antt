@@ -1,3 +1,3 @@
-pub mod Levels
+pub mod Fetch
 pub mod Outputs
 pub mod Places

@@ -1,22 +1,21 @@
--- What stands outside the arena, by the first place that is the one asked for.
-use Rattle.std.proofs.Common.{ℕ, ◌≡◌, Bool, true, false, List, [], ◌∷◌, Option, Some, None, cond, get_or, refl}
-use Rattle.std.specs.List.{find}
+-- What stands outside the arena, by the places from a position on: the one there, or those from the next position on.
+use Prim.Native.Nat.{ℕ, ◌+◌, ◌≤◌, ◌<◌}
+use mathlib.Core.List.{List, []}
+use mathlib.Core.Path.{◌≡◌}
+use native.Mathlib.Numerals.{add-one}
+use lib.ListN.{length, get_or, drop, drop_of_length-le}
+use lib.Seq.{drop-cons}
 use Rattle.fields.specs.Named.{pick}
 use Rattle.judge_translation.specs.Answer.{is_at, elsewhere_of}
 
-abbrev pub word_there : Option (List ℕ) → ℕ
-word_there (Some place) = get_or place 2 0
-word_there None = 0
+module _ (places : List (List ℕ)) (i named j : ℕ) where
+  pub elsewhere_at :
+      i < length places →
+      elsewhere_of (drop i places) named j
+      ≡ pick (is_at named j (get_or places i [])) (get_or (get_or places i []) 2 0) (elsewhere_of (drop (i + 1) places) named j)
+  unfolding elsewhere_of
+  elsewhere_at inside = rw (add-one, drop-cons places i [] inside)
 
-here_or_later :
-    (b : Bool) (place : List ℕ) (word : ℕ) (later : Option (List ℕ)) → word ≡ word_there later →
-    pick b (get_or place 2 0) word ≡ word_there (cond b (Some place) later)
-here_or_later true place word later e = refl
-here_or_later false place word later e = e
-
-pub elsewhere_found :
-    (places : List (List ℕ)) (named j : ℕ) → elsewhere_of places named j ≡ word_there (find (is_at named j) places)
-unfolding elsewhere_of
-elsewhere_found [] named j = refl
-elsewhere_found (place ∷ places) named j =
-    here_or_later (is_at named j place) place _ (find (is_at named j) places) (elsewhere_found places named j)
+  pub elsewhere_end : length places ≤ i → elsewhere_of (drop i places) named j ≡ 0
+  unfolding elsewhere_of
+  elsewhere_end past = rw (drop_of_length-le places past)

@@ -2,36 +2,13 @@
 // uses it.
 #![tactic(auto)]
 
-ghost use Rattle.std.specs.Prelude.{◌≤◌, ◌<◌, ◌∷◌, ◌≡◌, IfSome, eqb, position};
-ghost use Rattle.std.specs.List.{find};
+ghost use Rattle.std.specs.Prelude.{◌<◌, ◌∷◌, ◌≡◌, length};
 ghost use Rattle.descent.specs.Descent.{words_of, fetch};
-ghost use Rattle.judge_translation.specs.Answer.{is_at, elsewhere_of, access_numbered, translated_of, translation_answer};
-ghost use Rattle.judge_translation.specs.Asked.{access_of, level_of, size_of, translated};
+ghost use Rattle.judge_translation.specs.Answer.{is_at, elsewhere_of, machine_of, access_numbered, translated_of, translation_answer};
 ghost use Rattle.layout.specs.Size.{entries, table_count};
-ghost use Rattle.manual.specs.Translation.{permits, leaf};
+ghost use Rattle.manual.specs.Translation.{permits, leaf, level1, level2, level3, translation};
 
 use layout::Layout;
-
-// What a guest does with an address.
-#[derive(Clone, Copy)]
-enum Access {
-    Reads,
-    Writes,
-    ExecutesAtEl0,
-    ExecutesAtEl1,
-}
-
-// An access to an address, and what answers it: the arena with the addresses of its tables, the words that stand elsewhere, and whether
-// there is FEAT_XNX.
-#[derive(Clone, Copy)]
-struct Translation<'a> {
-    arena: &'a [u64],
-    tables: &'a [u64; Layout::TABLES],
-    places: &'a [[u64; 3]],
-    xnx: bool,
-    access: Access,
-    ipa: u64,
-}
 
 // 1 and the byte, or 0 and 0. A place is an address named, an index and the word that stands there, outside the arena. The accesses
 // are numbered: 0 reads, 1 writes, 2 executes at EL0, any other executes at EL1.
@@ -48,15 +25,7 @@ pub extern "C" fn judge_translation(
     ensures { (result ∷ byte.new)
         ≡ translation_answer arena.now tables.now places.now xnx access ipa }
 {
-    let asked = Translation {
-        arena,
-        tables,
-        places,
-        xnx: xnx != 0,
-        access: Access::from(access),
-        ipa,
-    };
-    match asked.translate() {
+    match translate(arena, tables, places, xnx != 0, access, ipa) {
         Some(pa) => {
             *byte = [pa];
             1
@@ -68,122 +37,158 @@ pub extern "C" fn judge_translation(
     }
 }
 
-impl From<u32> for Access {
-    ghost from_gives = { λ number access. access_of access ≡ access_numbered number };
-
-    fn from(number: u32) -> Access {
-        match number {
-            0 => Access::Reads,
-            1 => Access::Writes,
-            2 => Access::ExecutesAtEl0,
-            _ => Access::ExecutesAtEl1,
-        }
+fn translate(
+    arena: &[u64],
+    tables: &[u64],
+    places: &[[u64; 3]],
+    xnx: bool,
+    access: u32,
+    ipa: u64,
+) -> Option<u64>
+    requires { length tables.now ≡ table_count }
+    ensures { translated_of result
+        ≡ translation (machine_of xnx places.now) tables.now (λ left. words_of arena.now)
+        (access_numbered access) ipa }
+{
+    if Layout::ADDRESSABLE <= ipa {
+        return None;
     }
+    level1(arena, tables, places, xnx, access, ipa, tables[0])
 }
 
-impl Translation<'_> {
-    #[tactic(auto, unfolding(manual::specs::Translation::translation))]
-    fn translate(&self) -> Option<u64>
-        ensures { translated_of result ≡ translated self.now }
-    {
-        if Layout::ADDRESSABLE <= self.ipa {
-            return None;
-        }
-        self.level(2, self.tables[0])
+fn level1(
+    arena: &[u64],
+    tables: &[u64],
+    places: &[[u64; 3]],
+    xnx: bool,
+    access: u32,
+    ipa: u64,
+    named: u64,
+) -> Option<u64>
+    requires { length tables.now ≡ table_count }
+    ensures { translated_of result
+        ≡ level1 (machine_of xnx places.now) tables.now (λ left. words_of arena.now)
+        (access_numbered access) ipa named }
+{
+    let index = (ipa / Layout::L1_ENTRY_SIZE % Layout::INDICES) as usize;
+    let d = lookup(arena, tables, places, named, index);
+    if d % 4 == desc::TABLE {
+        let next = d % Layout::OUTPUT_LIMIT / Layout::PAGE_SIZE * Layout::PAGE_SIZE;
+        return level2(arena, tables, places, xnx, access, ipa, next);
     }
+    if d % 4 != desc::BLOCK {
+        return None;
+    }
+    let first = d % Layout::OUTPUT_LIMIT / Layout::L1_ENTRY_SIZE * Layout::L1_ENTRY_SIZE;
+    leaf(xnx, access, first + ipa % Layout::L1_ENTRY_SIZE, d)
+}
 
-    // From the table named, with `left` levels below its own: a page at level 3, above it a table or a block. By a reference, so that the
-    // compiler makes a loop of the recursion.
-    #[tactic(auto, using(crate::proofs::Levels::steps))]
-    fn level(&self, left: usize, named: u64) -> Option<u64>
-        requires { left ≤ 2 }
-        ensures { translated_of result ≡ level_of self.now left named }
-    {
-        let size = size_of(left);
-        let d = self.lookup(named, (self.ipa / size % Layout::INDICES) as usize);
-        let output = d % Layout::OUTPUT_LIMIT;
-        match (left, d % 4) {
-            (0, desc::PAGE) | (1.., desc::BLOCK) => {
-                self.leaf(output / size * size + self.ipa % size, d)
+fn level2(
+    arena: &[u64],
+    tables: &[u64],
+    places: &[[u64; 3]],
+    xnx: bool,
+    access: u32,
+    ipa: u64,
+    named: u64,
+) -> Option<u64>
+    requires { length tables.now ≡ table_count }
+    ensures { translated_of result
+        ≡ level2 (machine_of xnx places.now) tables.now (λ left. words_of arena.now)
+        (access_numbered access) ipa named }
+{
+    let index = (ipa / Layout::BLOCK_SIZE % Layout::INDICES) as usize;
+    let d = lookup(arena, tables, places, named, index);
+    if d % 4 == desc::TABLE {
+        let next = d % Layout::OUTPUT_LIMIT / Layout::PAGE_SIZE * Layout::PAGE_SIZE;
+        return level3(arena, tables, places, xnx, access, ipa, next);
+    }
+    if d % 4 != desc::BLOCK {
+        return None;
+    }
+    let first = d % Layout::OUTPUT_LIMIT / Layout::BLOCK_SIZE * Layout::BLOCK_SIZE;
+    leaf(xnx, access, first + ipa % Layout::BLOCK_SIZE, d)
+}
+
+fn level3(
+    arena: &[u64],
+    tables: &[u64],
+    places: &[[u64; 3]],
+    xnx: bool,
+    access: u32,
+    ipa: u64,
+    named: u64,
+) -> Option<u64>
+    requires { length tables.now ≡ table_count }
+    ensures { translated_of result
+        ≡ level3 (machine_of xnx places.now) tables.now (λ left. words_of arena.now)
+        (access_numbered access) ipa named }
+{
+    let index = (ipa / Layout::PAGE_SIZE % Layout::INDICES) as usize;
+    let d = lookup(arena, tables, places, named, index);
+    if d % 4 != desc::PAGE {
+        return None;
+    }
+    let first = d % Layout::OUTPUT_LIMIT / Layout::PAGE_SIZE * Layout::PAGE_SIZE;
+    leaf(xnx, access, first + ipa % Layout::PAGE_SIZE, d)
+}
+
+// The access flag clear faults, and so does an access that is not permitted.
+fn leaf(xnx: bool, access: u32, output: u64, d: u64) -> Option<u64>
+    ensures { translated_of result ≡ leaf xnx (access_numbered access) output d }
+{
+    if d / desc::AF % 2 != 1 {
+        return None;
+    }
+    if permits(xnx, access, d) {
+        return Some(output);
+    }
+    None
+}
+
+// S2AP's bit 6 reads, bit 7 writes; XN, bit 54, is set where EL0 does not execute, and where EL1 does not without FEAT_XNX.
+fn permits(xnx: bool, access: u32, d: u64) -> bool
+    ensures { result ≡ permits xnx (access_numbered access) d }
+{
+    let never = d / desc::XN % 2;
+    match access {
+        0 => d / 0x40 % 2 == 1,
+        1 => d / 0x80 % 2 == 1,
+        2 => never == 0,
+        _ => {
+            if xnx {
+                return never == d / 0x20_0000_0000_0000 % 2;
             }
-            (1.., desc::TABLE) => {
-                self.level(left - 1, output / Layout::PAGE_SIZE * Layout::PAGE_SIZE)
-            }
-            _ => None,
-        }
-    }
-
-    // The access flag clear faults, and so does an access that is not permitted.
-    fn leaf(&self, output: u64, d: u64) -> Option<u64>
-        ensures { translated_of result
-            ≡ leaf self.now.xnx (access_of self.now.access) output d }
-    {
-        (d / desc::AF % 2 == 1 && self.permits(d)).then_some(output)
-    }
-
-    // S2AP's bit 6 reads, bit 7 writes; XN, bit 54, is set where EL0 does not execute, and where EL1 does not without FEAT_XNX.
-    fn permits(&self, d: u64) -> bool
-        ensures { result ≡ permits self.now.xnx (access_of self.now.access) d }
-    {
-        let never = d / desc::XN % 2;
-        match self.access {
-            Access::Reads => d / 0x40 % 2 == 1,
-            Access::Writes => d / 0x80 % 2 == 1,
-            Access::ExecutesAtEl1 if self.xnx => never == d / 0x20_0000_0000_0000 % 2,
-            Access::ExecutesAtEl0 | Access::ExecutesAtEl1 => never == 0,
-        }
-    }
-
-    // A word of the first table whose address is the one named; else of the first place.
-    #[tactic(auto, using(descent::proofs::Fetch::fetch_by_position))]
-    fn lookup(&self, named: u64, index: usize) -> u64
-        requires { index < entries }
-        ensures { result ≡ fetch (elsewhere_of self.now.places.now named index)
-            self.now.tables.now (words_of self.now.arena.now) named index }
-    {
-        match table_named(self.tables, named) {
-            Some(t) => verify_read::word_at(self.arena, t * Layout::ENTRIES + index),
-            None => self.elsewhere(named, index as u64),
-        }
-    }
-
-    #[tactic(auto, using(crate::proofs::Places::elsewhere_found))]
-    fn elsewhere(&self, named: u64, index: u64) -> u64
-        ensures { result ≡ elsewhere_of self.now.places.now named index }
-    {
-        match place_named(self.places, named, index) {
-            Some(place) => place[2],
-            None => 0,
+            never == 0
         }
     }
 }
 
-fn table_named(tables: &[u64; Layout::TABLES], named: u64) -> Option<usize>
-    ensures value { result ≡ position (λ pa. eqb pa named) tables.now }
-    ensures upper_bound { IfSome result (λ t. t < table_count) }
+// A word of the first table whose address is the one named; else of the first place.
+fn lookup(arena: &[u64], tables: &[u64], places: &[[u64; 3]], named: u64, index: usize) -> u64
+    requires tables_len { length tables.now ≡ table_count }
+    requires index_lt_entries { index < entries }
+    ensures { result ≡ fetch (elsewhere_of places.now named index) tables.now
+        (words_of arena.now) named index }
 {
-    tables.iter().position(|pa| *pa == named)
-}
-
-// What an entry maps that has so many levels below it.
-fn size_of(left: usize) -> u64
-    requires { left ≤ 2 }
-    ensures { result ≡ size_of left }
-{
-    match left {
-        0 => Layout::PAGE_SIZE,
-        1 => Layout::BLOCK_SIZE,
-        _ => Layout::L1_ENTRY_SIZE,
+    for t in 0..Layout::TABLES {
+        if tables[t] == named {
+            return verify_read::word_at(arena, t * Layout::ENTRIES + index);
+        }
     }
+    elsewhere(places, named, index as u64)
 }
 
-fn place_named(places: &[[u64; 3]], named: u64, index: u64) -> Option<[u64; 3]>
-    ensures { result ≡ find (is_at named index) places.now }
+fn elsewhere(places: &[[u64; 3]], named: u64, index: u64) -> u64
+    ensures { result ≡ elsewhere_of places.now named index }
 {
-    places
-        .iter()
-        .copied()
-        .find(|place| is_at(*place, named, index))
+    for i in 0..places.len() {
+        let place = places[i];
+        if is_at(place, named, index) {
+            return place[2];
+        }
+    }
+    0
 }
 
 fn is_at(place: [u64; 3], named: u64, index: u64) -> bool
