@@ -51,3 +51,8 @@ going_on (Err bad) line s = stopped s
 abbrev pub read_of : Result Unit BadLine → Scene → Read
 read_of (Ok all) s = whole s
 read_of (Err bad) s = bad_line s
+
+-- and where what is kept stands in the front of a buffer
+abbrev pub reading_of : Result ℕ BadLine → List ℕ → Scene → Reading
+reading_of (Ok n) line s = reading s (take n line)
+reading_of (Err bad) line s = stopped s
