@@ -58,10 +58,12 @@ impl Edge {
     }
 }
 
-// Whether the domain owns the frame.
+// Whether the domain owns the frame. A domain's number is its owner number, and above those nobody's are.
 #[tactic(auto, unfolding(crate::specs::Edge::owns))]
 pub fn owns(frames: &[[u32; 2]], mfn: u32, dom: u16) -> bool
     ensures { result ≡ owns frames.now dom mfn }
 {
-    p2m::owner_of(frames, mfn) == Some(dom)
+    frames
+        .get(mfn as usize)
+        .is_some_and(|frame| frame[0] == dom as u32)
 }
