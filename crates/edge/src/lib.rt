@@ -54,7 +54,10 @@ impl Edge {
     pub fn counts(self, frames: &[[u32; 2]], dom: u16) -> bool
         ensures { result ≡ counts frames.now dom self }
     {
-        self.leaf && owns(frames, self.parent, dom)
+        if !self.leaf {
+            return false;
+        }
+        owns(frames, self.parent, dom)
     }
 }
 
