@@ -54,14 +54,19 @@ impl Edge {
     pub fn counts(self, frames: &[[u32; 2]], dom: u16) -> bool
         ensures { result ≡ counts frames.now dom self }
     {
-        self.leaf && owns(frames, self.parent, dom)
+        if !self.leaf {
+            return false;
+        }
+        owns(frames, self.parent, dom)
     }
 }
 
-// Whether the domain owns the frame.
+// Whether the domain owns the frame. A domain's number is its owner number, and above those nobody's are.
 #[tactic(auto, unfolding(crate::specs::Edge::owns))]
 pub fn owns(frames: &[[u32; 2]], mfn: u32, dom: u16) -> bool
     ensures { result ≡ owns frames.now dom mfn }
 {
-    p2m::owner_of(frames, mfn) == Some(dom)
+    frames
+        .get(mfn as usize)
+        .is_some_and(|frame| frame[0] == dom as u32)
 }

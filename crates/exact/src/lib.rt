@@ -30,7 +30,7 @@ pub fn check_exact<E: Copy + Into<Edge>>(
 
 // Rows 2, 3 and 25: whether the map holds the entries wanted.
 #[tactic(auto, using(refusal::proofs::Sequence::in_turn), unfolding(crate::specs::Exact::compared_rows))]
-fn compare(
+pub fn compare(
     dom: u16,
     leaves: &[u8],
     span: Span,

@@ -48,6 +48,12 @@ module _ (frames : List (List ℕ)) (dom : ℕ) (s : Span) (m : ℕ) (e : Edge) 
           (omega (arith, h.0, length-set xs e.child (entry_of e)), rw h.1 at (stored xs l (λ here. h.0)))
       go false l = (h.0, h.1 ∙ stays entry l)
 
+pub noted_each :
+    (frames : List (List ℕ)) (dom : ℕ) (s : Span) (xs ys : List ℕ) (e : Edge) → ys ≡ noted frames dom s xs e →
+    (m : ℕ) → m < length xs → get_or ys m 0 ≡ after_edge frames dom s m (get_or xs m 0) e
+noted_each frames dom s xs ys e same m inside =
+    ap (λ zs. get_or zs m 0) same ∙ (one frames dom s m e xs (get_or xs m 0) (inside, refl)).1
+
 pub noted_all :
     (frames : List (List ℕ)) (dom : ℕ) (s : Span) (edges : List Edge) (xs : List ℕ) →
     xs ≡ fold (noted frames dom s) (replicate entries 0) edges →

@@ -1,7 +1,7 @@
 // The entries that the edges of a span give (hv-s2's check.rs).
 #![tactic(auto)]
 
-ghost use Rattle.std.specs.Prelude.{ℕ, ◌<◌, map, ◌≡◌, get_or};
+ghost use Rattle.std.specs.Prelude.{ℕ, ◌<◌, map, ◌≡◌, get_or, replicate};
 ghost use Rattle.edge.specs.Edge.{Reads};
 ghost use Rattle.edge.specs.declared.Edge.{Edge};
 ghost use Rattle.expected.specs.Expected.{lands, noted, expected};
@@ -22,15 +22,22 @@ pub fn expected_entries<E: Copy + Into<Edge>>(
     ensures { (read : E → Edge) → Reads E.converts read
         → (m : ℕ) → m < entries → get_or result m 0 ≡ expected frames.now dom span (map read edges.now) m }
 {
-    let mut wanted = [0; Layout::ENTRIES];
+    let mut wanted = unmapped();
     for e in edges {
         note(&mut wanted, (*e).into(), dom, span, frames);
     }
     wanted
 }
 
-// The entries after one edge more.
-fn note(wanted: &mut [u8], e: Edge, dom: u16, span: Span, frames: &[[u32; 2]])
+// The entries before any edge.
+pub fn unmapped() -> [u8; Layout::ENTRIES]
+    ensures { result ≡ replicate entries 0 }
+{
+    [0; Layout::ENTRIES]
+}
+
+// The entries after one edge more. Frame by frame: the lemma `noted_each`.
+pub fn note(wanted: &mut [u8], e: Edge, dom: u16, span: Span, frames: &[[u32; 2]])
     ensures { wanted.new ≡ noted frames.now dom span wanted.old e }
 {
     let child = e.child as usize;

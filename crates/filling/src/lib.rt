@@ -2,7 +2,7 @@
 #![tactic(auto)]
 
 ghost use Rattle.std.specs.Prelude.{◌≡◌};
-ghost use Rattle.filling.specs.Filling.{filling, put, put_in, placed, started};
+ghost use Rattle.filling.specs.Filling.{filling, put, put_in, placed, placed_next, onward, conflicts, started};
 ghost use Rattle.refusal.specs.Outcome.{outcome_of};
 ghost use Rattle.refusal.specs.Table.{accepted};
 
@@ -37,13 +37,40 @@ pub fn place(
     if !e.counts(frames, dom) {
         return Ok(());
     }
-    let span = p2m::span_of_table(frames, e.parent).ok_or(Refusal::UnsupportedSpan {
+    let span = p2m::span_of_table(frames, e.parent).ok_or_else(|| Refusal::UnsupportedSpan {
         parent: e.parent as u64,
     })?;
     match span {
         Span::Base => put(base, e),
         Span::Super => put(sup, e),
     }
+}
+
+// One edge more, from where a filling stands: what a row has refused stays as it is.
+#[tactic(auto, unfolding(crate::specs::Filling::onward))]
+pub fn place_next(
+    so_far: Result<(), Refusal>,
+    e: Edge,
+    frames: &[[u32; 2]],
+    dom: u16,
+    base: &mut [u8],
+    sup: &mut [u8],
+) -> Result<(), Refusal>
+    ensures { filling base.new sup.new (outcome_of result)
+        ≡ placed_next frames.now dom (filling base.old sup.old (outcome_of so_far)) e }
+{
+    so_far?;
+    place(e, frames, dom, base, sup)
+}
+
+// The refusal, or row 17.
+#[tactic(auto, unfolding(crate::specs::Filling::onward, crate::specs::Filling::conflicts))]
+pub fn finish(so_far: Result<(), Refusal>, base: &[u8], sup: &[u8]) -> Result<(), Refusal>
+    ensures { filling base.now sup.now (outcome_of result)
+        ≡ onward conflicts (filling base.now sup.now (outcome_of so_far)) }
+{
+    so_far?;
+    conflict::no_conflict(base, sup)
 }
 
 // The edge's entry at its child, or row 16.
