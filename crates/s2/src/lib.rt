@@ -218,7 +218,8 @@ pub extern "C" fn s2_exact_edges(
 fn answer<T: Told>(told: Result<T, Refusal>, values: &mut [u64; 8]) -> u32
     ensures { (result ∷ values.new) ≡ told_words T.values (told_of told) }
 {
-    let words = refusal::words(told);
-    values.copy_from_slice(&words[1..]);
-    words[0] as u32
+    // Word by word: a copy of the slice would wait for the stores of the words.
+    let [number, a, b, c, d, e, f, g, h] = refusal::words(told);
+    *values = [a, b, c, d, e, f, g, h];
+    number as u32
 }
