@@ -98,10 +98,10 @@ within limit w e p =
 aligned : (n unit : ℕ) → unaligned n unit ≡ false → n % unit ≡ 0
 aligned n unit e = eqb-true _ _ (not-false _ e)
 
-nameable : (limit : ℕ) (t : Table) → row7 limit t ≡ [] → Nameable limit t
+nameable : (limit : ℕ) (t : Table) → row7 limit t ≡ [] → t.present ≡ true → Nameable limit t
 unfolding row7
-nameable limit t e =
-    let r = neither _ _ (test _ _ _ e) in
+nameable limit t e p =
+    let r = neither _ _ (test _ _ _ (under t.present _ p e)) in
     record { below = leb-false _ _ r.0; aligned = aligned _ _ r.1 }
 
 whole : (w : Window) → row4 w ≡ [] → Aligned w.span

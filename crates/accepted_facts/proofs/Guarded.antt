@@ -1,6 +1,6 @@
 -- Where encoding or an update is let by, maps, tables and supers have the facts of rows 1 to 14.
 use Prim.Native.Nat.{ℕ, ◌<◌}
-use mathlib.Core.Bool.{false, not, ◌&&◌}
+use mathlib.Core.Bool.{true, false, not, ◌&&◌}
 use mathlib.Core.List.{List, [], flat_map}
 use mathlib.Core.Path.{◌≡◌}
 use lib.Dec.{eqb, leb}
@@ -11,7 +11,7 @@ use Rattle.layout.specs.Size.{arena_length}
 use Rattle.layout.specs.declared.Layout.{Layout}
 use Rattle.layout.specs.declared.Table.{Table}
 use Rattle.refusal.proofs.All.{all_always, pairs_map}
-use Rattle.refusal.proofs.None.{none, accept, both, test, pairs_none, from_none}
+use Rattle.refusal.proofs.None.{none, accept, both, test, under, pairs_none, from_none}
 use Rattle.refusal.specs.Table.{accepted, first, each_from, pairs}
 use Rattle.rows.specs.Rows.{row13, row14, guard_rows, arena_guard_rows, row1, row2, row3, length_rows, map_rows, refusals_at}
 use Rattle.accepted_facts.specs.Guarded.{Readable, Distinct, GuardedFacts, ArenaGuardedFacts}
@@ -27,7 +27,9 @@ readable code map e f =
 
 distinct : (s t : Table) → row13 s t ≡ [] → Distinct s t
 unfolding row13
-distinct s t e = eqb-false _ _ (test _ _ _ e)
+distinct s t e p q =
+    let there : (s.present && t.present) ≡ true = rw (p, q) in
+    eqb-false _ _ (test _ _ _ (under (s.present && t.present) _ there e))
 
 backed :
     (frames : ℕ) (sup : List ℕ) → each_from (row14 frames) 0 sup ≡ [] →

@@ -43,7 +43,7 @@ pub record Accepted (limit : ℕ) (l : Layout) : Type 0 where
   pub sup_pa : Aligned l.sup_pa_base
   pub image : (image_window l.guest_image_pa).present ≡ true → Aligned (image_window l.guest_image_pa).ipa
   pub devices : All (λ w. w.present ≡ true → Aligned w.ipa) (devices_of l)
-  pub tables : All (Nameable limit) (tables_of l)
+  pub tables : All (λ t. t.present ≡ true → Nameable limit t) (tables_of l)
   pub frames : l.sup_frames < uncountable
   pub windows : All (λ w. w.present ≡ true → Within limit w) (windows_of l)
   pub apart : AllPairs (λ v w. v.present ≡ true → w.present ≡ true → Apart v w) (windows_of l)

@@ -1,5 +1,5 @@
 -- What is known where encoding or an update is let by: rows 1 to 14.
-use Rattle.std.specs.Prelude.{ℕ, ◌≤◌, ◌<◌, List, ◌≡◌, length, get_or}
+use Rattle.std.specs.Prelude.{ℕ, ◌≤◌, ◌<◌, true, List, ◌≡◌, length, get_or}
 use Rattle.layout.specs.Layout.{tables_of}
 use Rattle.layout.specs.Size.{entries, arena_length}
 use Rattle.layout.specs.declared.Layout.{Layout}
@@ -14,9 +14,9 @@ pub record Readable (map : List ℕ) : Type 0 where
   pub short : length map ≤ entries
   pub codes : (p : ℕ) → p < length map → get_or map p 0 ≤ 3
 
--- tables have different addresses
+-- tables that are present have different addresses
 abbrev pub Distinct : Table → Table → Type 0
-Distinct s t = s.pa ≡ t.pa → ⊥
+Distinct s t = s.present ≡ true → t.present ≡ true → s.pa ≡ t.pa → ⊥
 
 pub record Guarded (limit : ℕ) (base sup : List ℕ) (l : Layout) : Type 0 where
   pub base_map : Readable base

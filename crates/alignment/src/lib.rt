@@ -75,6 +75,9 @@ pub fn all_nameable(limit: u64, ts: [Table; Layout::TABLES]) -> Result<(), Refus
 fn nameable(limit: u64, t: Table) -> Result<(), Refusal>
     ensures { outcome_of result ≡ first (row7 limit t) }
 {
+    if !t.present {
+        return Ok(());
+    }
     if limit <= t.pa || t.pa % Layout::PAGE_SIZE != 0 {
         return Err(Refusal::TableUnnameable {
             table: t.code,

@@ -21,7 +21,7 @@ use Rattle.arena.specs.Word.{table_to, image_to, device_to}
 use Rattle.decode.specs.Emitted.{Output}
 use Rattle.demand_2.specs.Demand2.{addresses_of, Reaches, Demand2, Demand2Whole, Demand2Encoded}
 use Rattle.demand_2.proofs.Entries.{Entry, page_entry, block_entry, image_entry_lem, device_entry_lem}
-use Rattle.demand_2.proofs.Fetched.{both, fetched}
+use Rattle.demand_2.proofs.Fetched.{both, all_present, present_at, fetched}
 use Rattle.demand_2.proofs.Leaves.{BlockLeaf}
 use Rattle.demand_2.proofs.Parts.{Part, part, area_in, In, seen_in}
 use Rattle.demand_2.proofs.Path.{seen_along, whole_path}
@@ -31,7 +31,7 @@ use Rattle.descent.specs.Descent.{Words, words_of, index}
 use Rattle.descent.specs.Path.{PathAgrees}
 use Rattle.encode_theorems.proofs.Arena.{from_zeros}
 use Rattle.fields.specs.Named.{pick}
-use Rattle.layout.specs.Layout.{table_at, tables_of}
+use Rattle.layout.specs.Layout.{table_if, tables_of}
 use Rattle.layout.specs.Size.{entries, page, block, input_limit, board_limit, table_count, arena_length}
 use Rattle.layout.specs.Window.{image_window, device_window, l1_slot, l2_slot}
 use Rattle.layout.specs.declared.Layout.{Layout}
@@ -158,16 +158,16 @@ module _ (l : Layout) (base sup : List ℕ) (g : Guarded board_limit base sup l)
     abbrev In-slot : Part → Type 0
     In-slot p = area_has (area_in p) (l1_slot x) ≡ true
 
-    -- the table with k tables before it
-    module _ (k : ℕ) (few : k < table_count) where
+    -- the table with k tables before it, all present
+    module _ (k : ℕ) (few : k < table_count) (there : all_present (take (suc k) (tables_of l)) ≡ true) where
       abbrev address : ℕ
-      address = (get_or (tables_of l) k (table_at 0 0)).pa
+      address = (get_or (tables_of l) k (table_if 0 false 0)).pa
 
       -- its word at the address's index
       word_of : (left : ℕ) → Reads left address (target l base sup (k * entries + index left x))
       word_of left out =
           let e : 0 + (k * entries + index left x) ≡ k * entries + index left x = omega arith in
-          fetched (tables_of l) k 0 out (table_at 0 0) words (index left x) few g.distinct ∙ ap words e
+          fetched (tables_of l) k 0 out (table_if 0 false 0) words (index left x) few there g.distinct ∙ ap words e
 
       run_of :
           (left : ℕ) (u : Run) →
@@ -176,7 +176,8 @@ module _ (l : Layout) (base sup : List ℕ) (g : Guarded board_limit base sup l)
 
       named : Names-table (table_to address) address
       named =
-          let n = all_at (Nameable board_limit) (tables_of l) k (table_at 0 0) few g.layout.tables in
+          let n = all_at (λ t. t.present ≡ true → Nameable board_limit t) (tables_of l) k (table_if 0 false 0) few g.layout.tables
+          (present_at (tables_of l) k (table_if 0 false 0) few there) in
           table_names address (record { below = omega (arith, n.below); aligned = n.aligned })
 
       in_blocks :
@@ -203,20 +204,20 @@ module _ (l : Layout) (base sup : List ℕ) (g : Guarded board_limit base sup l)
 
     table_1 : Reads 2 l.l1_pa (l1_at l (l1_slot x))
     table_1 out =
-        word_of 0 (omega arith) 2 out
+        word_of 0 (omega arith) refl 2 out
         ∙ at_1 l base sup (0 * entries + index 2 x) (omega arith)
         ∙ ap (l1_at l) (index_of_lem 0 (index 2 x) (omega arith))
 
     table_3 : Reads 1 l.l2_data_pa (data_at l (l2_slot x))
     table_3 out =
-        word_of 2 (omega arith) 1 out
+        word_of 2 (omega arith) refl 1 out
         ∙ at_3 l base sup (2 * entries + index 1 x) (omega arith)
         ∙ ap (data_at l) (index_of_lem 2 (index 1 x) (omega arith))
 
     table_4 : Reads 0 l.l3_data_pa (page_at l.data_pa_base base (index 0 x))
     table_4 out =
         let first : index 0 x - 0 ≡ index 0 x = omega arith in
-        run_of 3 (omega arith) 0 (page_run l base) (run_4 l base sup) out
+        run_of 3 (omega arith) refl 0 (page_run l base) (run_4 l base sup) out
         ∙ run_inside (index 0 x) (omega arith) 3 (page_run l base) refl (omega arith) (omega arith)
         ∙ ap (page_at l.data_pa_base base) first
 
@@ -225,10 +226,10 @@ module _ (l : Layout) (base sup : List ℕ) (g : Guarded board_limit base sup l)
         let w = data_within g.layout in
         let e = table_to l.l3_data_pa in
         page_window addresses words x board_limit (data_region l base) refl w refl g.layout.data_ipa refl low (sym (eqb-true _ _ has))
-        (table_to l.l2_data_pa) l.l2_data_pa e l.l3_data_pa at1 (named 2 (omega arith))
+        (table_to l.l2_data_pa) l.l2_data_pa e l.l3_data_pa at1 (named 2 (omega arith) refl)
         (λ ne out. table_3 out ∙ ap (λ b. pick b e 0) (ne_eqb _ _ ne))
         (λ q out. table_3 out ∙ ap (λ b. pick b e 0) (eq-eqb _ _ q))
-        (named 3 (omega arith)) (page_at l.data_pa_base base) table_4
+        (named 3 (omega arith) refl) (page_at l.data_pa_base base) table_4
         (λ p h. page_entry (l.data_pa_base + p * page) (get_or base p 0)
         (page_output l.data_pa_base p g.layout.data_pa w.output h))
 
@@ -250,13 +251,13 @@ module _ (l : Layout) (base sup : List ℕ) (g : Guarded board_limit base sup l)
         seen_in x (l1_slot x) Leads parts 0
         (pairs_map (λ p. Unit) _ _ (λ p q a b. alone p q) parts (all_always _ (λ p. tt) parts) g.layout.apart)
         (all_map _ _ (λ p within. not_here board_limit p.region.window x within) parts g.layout.windows) (
-          in_blocks 1 (omega arith) (image_region l) (image_run l) image_blocks (run_2 l base sup),
+          in_blocks 1 (omega arith) refl (image_region l) (image_run l) image_blocks (run_2 l base sup),
           (
             in_data,
             (
-              in_blocks 4 (omega arith) (super_region l sup) (super_run l sup) (λ e. super_blocks) (run_5 l base sup),
+              in_blocks 4 (omega arith) refl (super_region l sup) (super_run l sup) (λ e. super_blocks) (run_5 l base sup),
               (
-                in_device 5 (omega arith) (device_window l) refl devices.0 g.layout.devices.0 g.layout.lengths.0
+                in_device 5 (omega arith) refl (device_window l) refl devices.0 g.layout.devices.0 g.layout.lengths.0
                     (run_6 l base sup),
                 tt,
               ),

@@ -70,14 +70,14 @@ module _ (x : ℕ) (r : Reach) where
       go true c f later = a.0 (inside g.window x c) (at_output _ g.exempt (g.entry ((x - g.window.ipa) / g.piece)) r f)
       go false c f later = later f
 
-  module _ (t : Table) (whole : t.pa % page ≡ 0) (byte : ByteOf t r.pa) where
+  module _ (t : Table) (there : t.present ≡ true) (whole : t.pa % page ≡ 0) (byte : ByteOf t r.pa) where
     begins : (pa span away : ℕ) → pa % page ≡ 0 → away < span → r.pa ≡ pa + away → (pa ≤ t.pa) × (t.pa < pa + span)
     begins pa span away a b e = (omega (arith, a, whole, byte.1, e), omega (arith, b, byte.0, e))
 
     off : (w : Window) → (w.present ≡ true → w.pa % page ≡ 0) → lies_in t w ≡ false → Inside w x → r.pa ≡ w.pa + (x - w.ipa) → ⊥
     off w aligned f i e =
         let b = begins w.pa w.span (x - w.ipa) (aligned i.there) i.before e in
-        let l : lies_in t w ≡ true = rw (i.there, le-leb _ _ b.0, lt-ltb _ _ b.1) in false≢true (sym f ∙ l)
+        let l : lies_in t w ≡ true = rw (there, i.there, le-leb _ _ b.0, lt-ltb _ _ b.1) in false≢true (sym f ∙ l)
 
 by_blocks : (n : ℕ) → n % block ≡ 0 → n % page ≡ 0
 by_blocks n h = omega (arith, h)
@@ -100,11 +100,11 @@ module _ (l : Layout) (base sup : List ℕ) (g : Guarded board_limit base sup l)
   abbrev Clear : Table → Type 0
   Clear t = All (λ w. lies_in t w ≡ false) (windows_of l)
 
-  no_byte : (t : Table) → Nameable board_limit t → Clear t → ByteOf t r.pa → ⊥
-  no_byte t n a byte =
+  no_byte : (t : Table) → (t.present ≡ true → Nameable board_limit t) → Clear t → t.present ≡ true → ByteOf t r.pa → ⊥
+  no_byte t n a there byte =
       nowhere x r (regions_of l base sup) e
       (all_map (λ g. (g.window.present ≡ true → g.window.pa % page ≡ 0) × (lies_in t g.window ≡ false)) (Not-from x r)
-      (λ g b. off x r t n.aligned byte g.window b.0 b.1) (regions_of l base sup)
+      (λ g b. off x r t there (n there).aligned byte g.window b.0 b.1) (regions_of l base sup)
       (all_both (λ (g : Region). g.window.present ≡ true → g.window.pa % page ≡ 0) (λ (g : Region). lies_in t g.window ≡ false)
       (regions_of l base sup) pages a))
 
@@ -112,9 +112,9 @@ pub out_of_reach : OutOfReach
 out_of_reach l base sup words e all apart x r walked =
     let g = guarded_facts board_limit base sup l e in
     let granted_at = sym (demand_2_whole l base sup words e all x).walks ∙ walked in
-    all_map (λ t. Nameable board_limit t × Clear l base sup g x r granted_at t) _
+    all_map (λ t. (t.present ≡ true → Nameable board_limit t) × Clear l base sup g x r granted_at t) _
     (λ t b. no_byte l base sup g x r granted_at t b.0 b.1) (tables_of l)
-    (all_both (Nameable board_limit) (Clear l base sup g x r granted_at) (tables_of l)
+    (all_both (λ (t : Table). t.present ≡ true → Nameable board_limit t) (Clear l base sup g x r granted_at) (tables_of l)
     g.layout.tables apart)
 
 pub table_handed_out : TableHandedOut

@@ -31,7 +31,7 @@ OutOfReach =
     ((i : ℕ) → i < arena_length → words i ≡ target l base sup i) →
     All (λ t. All (λ w. lies_in t w ≡ false) (windows_of l)) (tables_of l) →
     (x : ℕ) (r : Reach) →
-    walk_of (addresses_of l) (λ left. words) x ≡ Some r → All (λ t. ByteOf t r.pa → ⊥) (tables_of l)
+    walk_of (addresses_of l) (λ left. words) x ≡ Some r → All (λ t. t.present ≡ true → ByteOf t r.pa → ⊥) (tables_of l)
 
 -- S with data pa 40000000 and base 0 Rw is accepted, and l1 is handed to the guest
 abbrev pub handed_s : List ℕ

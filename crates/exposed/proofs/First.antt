@@ -4,7 +4,7 @@ use Rattle.std.proofs.lemmas.List.{at_drop_more, at_drop_all}
 use Rattle.std.specs.List.{find}
 use Rattle.std.specs.Option.{option_map, option_or}
 use Rattle.fields.specs.Named.{pick}
-use Rattle.layout.specs.Layout.{table_at}
+use Rattle.layout.specs.Layout.{table_if}
 use Rattle.layout.specs.declared.Table.{Table}
 use Rattle.layout.specs.declared.Window.{Window}
 use Rattle.exposed.specs.Exposed.{lies_in, first_window, first_table}
@@ -27,9 +27,9 @@ window_found t (w ∷ ws) = here_or_later (lies_in t w) t w (first_window t ws) 
 -- the first table from a place on
 pub tables_from :
     (ts : List Table) (i : ℕ) (ws : List Window) → i < length ts →
-    first_table (drop i ts) ws ≡ option_or (first_window (get_or ts i (table_at 0 0)) ws) (first_table (drop (i + 1) ts) ws)
+    first_table (drop i ts) ws ≡ option_or (first_window (get_or ts i (table_if 0 false 0)) ws) (first_table (drop (i + 1) ts) ws)
 unfolding first_table
-tables_from ts i ws h = at_drop_more (λ us. first_table us ws) ts i (table_at 0 0) h
+tables_from ts i ws h = at_drop_more (λ us. first_table us ws) ts i (table_if 0 false 0) h
 
 pub tables_end : (ts : List Table) (i : ℕ) (ws : List Window) → length ts ≤ i → first_table (drop i ts) ws ≡ None
 unfolding first_table

@@ -11,7 +11,7 @@ use Rattle.exposed.specs.declared.Exposure.{Exposure}
 
 -- a table begins in the output of a window that is present; both are whole pages, so that it lies there whole
 abbrev pub lies_in : Table → Window → Bool
-lies_in t w = w.present && leb w.pa t.pa && ltb t.pa (w.pa + w.span)
+lies_in t w = t.present && w.present && leb w.pa t.pa && ltb t.pa (w.pa + w.span)
 
 -- the lowest window
 unfoldable pub first_window : Table → List Window → Option Exposure

@@ -62,7 +62,7 @@ fn first_window(t: Table, ws: [Window; Layout::WINDOWS]) -> Option<Exposure>
 fn lies_in(t: Table, w: Window) -> bool
     ensures { result ≡ lies_in t w }
 {
-    w.present && w.pa <= t.pa && t.pa - w.pa < w.span
+    t.present && w.present && w.pa <= t.pa && t.pa - w.pa < w.span
 }
 
 impl Told for Exposure {

@@ -1,6 +1,6 @@
 -- The layout's fields as numbers, and its tables.
 use Rattle.std.specs.Prelude.{Option, Some, None}
-use Rattle.std.specs.Prelude.{ℕ, ◌+◌, ◌-◌, List, [], ◌∷◌, eqb, ltb, get_or}
+use Rattle.std.specs.Prelude.{ℕ, ◌+◌, ◌-◌, Bool, true, List, [], ◌∷◌, eqb, ltb, get_or}
 use Rattle.fields.specs.Named.{pick}
 use Rattle.fields.specs.Numbers.{nonzero}
 use Rattle.layout.specs.declared.Layout.{Layout}
@@ -47,8 +47,11 @@ image_field = 7
 abbrev pub field_at : ℕ → ℕ
 field_at n = pick (ltb n image_field) (n - 1) n
 
+abbrev pub table_if : ℕ → Bool → ℕ → Table
+table_if n present pa = record { code = n; present = present; pa = pa }
+
 abbrev pub table_at : ℕ → ℕ → Table
-table_at n pa = record { code = n; pa = pa }
+table_at n pa = table_if n true pa
 
 -- l1, l2_code, l2_data, l3_data, l2_sup, l2_dev: tables 1 to 6
 abbrev pub tables_of : Layout → List Table

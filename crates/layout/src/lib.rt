@@ -29,10 +29,11 @@ pub struct Layout {
     pub sup_frames: u64,
 }
 
-// A table's code, 1 to 6, and its address.
+// A table's code, 1 to 6, and its address, if it is present.
 #[derive(Clone, Copy)]
 pub struct Table {
     pub code: u64,
+    pub present: bool,
     pub pa: u64,
 }
 
@@ -99,26 +100,32 @@ impl Layout {
         [
             Table {
                 code: 1,
+                present: true,
                 pa: self.l1_pa,
             },
             Table {
                 code: 2,
+                present: true,
                 pa: self.l2_code_pa,
             },
             Table {
                 code: 3,
+                present: true,
                 pa: self.l2_data_pa,
             },
             Table {
                 code: 4,
+                present: true,
                 pa: self.l3_data_pa,
             },
             Table {
                 code: 5,
+                present: true,
                 pa: self.l2_sup_pa,
             },
             Table {
                 code: 6,
+                present: true,
                 pa: self.l2_dev_pa,
             },
         ]

@@ -37,7 +37,8 @@ row6 c = refuse_if c.fails 6 (c.code ∷ c.base ∷ c.align ∷ [])
 
 -- row 7: table address at or past the limit or not k × 4,096
 unfoldable pub row7 : ℕ → Table → List Row
-row7 limit t = refuse_if (leb limit t.pa || unaligned t.pa page) 7 (t.code ∷ t.pa ∷ [])
+row7 limit t =
+    given t.present (refuse_if (leb limit t.pa || unaligned t.pa page) 7 (t.code ∷ t.pa ∷ []))
 
 -- row 8: sup_frames ≥ 2^43
 unfoldable pub row8 : Layout → List Row
@@ -67,7 +68,7 @@ row12 v w = refuse_if (overlap v.pa v.span w.pa w.span) 12 []
 
 -- row 13: two equal table addresses
 unfoldable pub row13 : Table → Table → List Row
-row13 s t = refuse_if (eqb s.pa t.pa) 13 (s.code ∷ t.code ∷ [])
+row13 s t = given (s.present && t.present) (refuse_if (eqb s.pa t.pa) 13 (s.code ∷ t.code ∷ []))
 
 -- row 14: super mapped at or past sup_frames, by its position
 unfoldable pub row14 : ℕ → ℕ → ℕ → List Row
