@@ -1,5 +1,5 @@
 -- A frame has an entry in both maps only where the lesser of its two is not zero.
-use Prim.Native.Nat.{ℕ, suc, zero, min, max}
+use Prim.Native.Nat.{ℕ, suc, zero, ◌≤◌, min, max}
 use mathlib.Core.Bool.{Bool, true, false}
 use mathlib.Core.List.{List, [], ◌∷◌}
 use mathlib.Core.Path.{◌≡◌, refl, sym}
@@ -12,7 +12,7 @@ use Rattle.conflict.specs.Conflict.{row17, largest_shared}
 use Rattle.refusal.proofs.None.{accept, from_nowhere}
 use Rattle.refusal.specs.Table.{accepted, first, each_from}
 
-no_conflict_at : (sup : List ℕ) (m entry : ℕ) → min entry (get_or sup m 0) ≡ 0 → row17 sup m entry ≡ []
+pub no_conflict_at : (sup : List ℕ) (m entry : ℕ) → min entry (get_or sup m 0) ≤ 0 → row17 sup m entry ≡ []
 unfolding row17
 no_conflict_at sup m entry h = go (eqb entry 0) refl
   where
@@ -34,4 +34,4 @@ apart (b ∷ base) (s ∷ sup) most e =
 pub none_shared : (base sup : List ℕ) → largest_shared base sup ≡ 0 → accepted ≡ first (each_from (row17 sup) 0 base)
 none_shared base sup e =
     let none = apart base sup 0 e in
-    sym (accept _ (from_nowhere (row17 sup) base 0 (λ m inside. no_conflict_at sup m (get_or base m 0) (none.1 m))))
+    sym (accept _ (from_nowhere (row17 sup) base 0 (λ m inside. no_conflict_at sup m (get_or base m 0) (omega (arith, none.1 m)))))

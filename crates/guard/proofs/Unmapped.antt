@@ -8,7 +8,7 @@ use Rattle.refusal.proofs.None.{accept, from_nowhere}
 use Rattle.refusal.specs.Table.{accepted, first, each_from}
 use Rattle.rows.specs.Rows.{row14}
 
-no_row14 : (frames p byte : ℕ) → (frames ≤ p → byte ≡ 0) → row14 frames p byte ≡ []
+pub no_row14 : (frames p byte : ℕ) → (frames ≤ p → byte ≡ 0) → row14 frames p byte ≡ []
 unfolding row14
 no_row14 frames p byte past = go (eqb byte 0) refl (leb frames p) refl
   where

@@ -76,6 +76,8 @@ impl Layout {
     pub const BOARD_LIMIT: u64 = Self::OUTPUT_LIMIT;
 
     pub const DUMP_LIMIT: u64 = Self::OUTPUT_LIMIT;
+    // The first count of blocks whose length leaves 64 bits.
+    pub const UNCOUNTABLE: u64 = 0x800_0000_0000;
 
     // The words of a table, and the most entries of a map.
     pub const ENTRIES: usize = Self::INDICES as usize;
@@ -208,7 +210,10 @@ impl Layout {
     pub fn super_window(self) -> Option<Window>
         ensures { result ≡ super_counted self }
     {
-        let span = self.sup_frames.checked_mul(Self::BLOCK_SIZE)?;
+        if Self::UNCOUNTABLE <= self.sup_frames {
+            return None;
+        }
+        let span = self.sup_frames * Self::BLOCK_SIZE;
         Some(Window {
             code: 3,
             present: true,

@@ -3,7 +3,7 @@
 
 ghost use Rattle.std.specs.Prelude.{◌≡◌, get_or};
 ghost use Rattle.verify_rows.specs.Verifying.{word};
-ghost use Rattle.verify_rows.specs.Word.{read_page, read_block, wanted_leaf};
+ghost use Rattle.verify_rows.specs.Word.{read_page, read_block, same_leaf, wanted_leaf};
 
 use decode::Decoded;
 use layout::Layout;
@@ -47,4 +47,11 @@ pub fn wanted_leaf(entry: u8, pa: u64, exempt: bool) -> Option<Decoded>
             xn: a.xn,
         }
     })
+}
+
+// Whether two leaves agree in what verification compares.
+pub fn same_leaf(found: Option<Decoded>, want: Option<Decoded>) -> bool
+    ensures { result ≡ same_leaf found want }
+{
+    found == want
 }

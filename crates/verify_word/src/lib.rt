@@ -61,7 +61,7 @@ impl Word {
             perm: Perm::Ro,
             xn: false,
         };
-        if found == Some(want) {
+        if verify_read::same_leaf(found, Some(want)) {
             return Ok(());
         }
         Err(Refusal::BadImageBlock { found, expected })
@@ -77,7 +77,7 @@ impl Word {
     ) -> Result<(), Refusal>
         ensures { outcome_of result ≡ first (leaf_row self.table self.index self.desc mfn found want) }
     {
-        if found == want {
+        if verify_read::same_leaf(found, want) {
             return Ok(());
         }
         match want {

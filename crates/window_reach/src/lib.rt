@@ -84,7 +84,15 @@ fn grant(w: Window, ipa: u64, exempt: bool, perm: Perm) -> Reach
     by_perm(w.pa + (ipa - w.ipa), exempt, perm)
 }
 
-// An output address by an entry of a leaf map that is mapped.
+// An output address by an entry of a leaf map: what is no permission's code reaches nothing.
+pub fn by_entry(pa: u64, exempt: bool, entry: u8) -> Option<Reach>
+    ensures { result ≡ by_entry pa exempt entry }
+{
+    let perm = perm::entry_named(entry)?;
+    Some(by_perm(pa, exempt, perm))
+}
+
+// The same by an entry that is mapped.
 pub fn by_perm(pa: u64, exempt: bool, perm: Perm) -> Reach
     ensures { Some result ≡ by_entry pa exempt (perm_code perm) }
 {
