@@ -6,6 +6,7 @@ ghost use Rattle.dump.specs.Dump.{line_at, printed_read};
 ghost use Rattle.dump.specs.Pieces.{piece_at, pieces};
 ghost use Rattle.dump.specs.declared.Undumped.TheVariants.{BadLine as BadLineOf, Refused};
 ghost use Rattle.layout.specs.Size.{arena_length};
+ghost use Rattle.printed.specs.Line.{Puts};
 ghost use Rattle.refusal.specs.Outcome.{row_of};
 ghost use Rattle.scene.specs.Scene.{scene};
 ghost use Rattle.scene_text.specs.Reading.{read_of};
@@ -93,6 +94,18 @@ pub fn piece(answer: Result<(), Undumped>, words: &[u64], i: usize) -> Line
         Err(Undumped::BadLine) => Line::bad(),
         Err(Undumped::Refused(number)) => Line::refused(number),
     }
+}
+
+// The same in the front of the buffer; returns its length.
+pub fn put_piece(
+    answer: Result<(), Undumped>,
+    words: &[u64],
+    i: usize,
+    out: &mut [u8; printed::LINE],
+) -> usize
+    ensures { Puts (piece_at answer words.now i) out.old result out.new }
+{
+    piece(answer, words, i).copy_to(out)
 }
 
 // A word past the last is 0, and has no line.

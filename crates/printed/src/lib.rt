@@ -2,7 +2,7 @@
 #![tactic(auto)]
 
 ghost use Rattle.std.specs.Prelude.{ℕ, ◌+◌, ◌%◌, ◌≤◌, ◌≡◌, List, [], ◌++◌, length, take, drop};
-ghost use Rattle.printed.specs.Line.{bad_line, refused_line, decimal};
+ghost use Rattle.printed.specs.Line.{bad_line, refused_line, decimal, Puts};
 ghost use Rattle.printed.specs.Word.{word_line};
 ghost use Rattle.printed.specs.declared.TheConstants.{LINE};
 ghost use Rattle.text.specs.Digits.{digits};
@@ -10,13 +10,13 @@ ghost use Rattle.text.specs.Digits.{digits};
 use std::marker::Model;
 
 // The longest line: REFUSED, a space, 20 digits and a line feed.
-const LINE: usize = 29;
+pub const LINE: usize = 29;
 
 // The most digits of a number.
 const DIGITS: usize = 20;
 
 // A line, or the first bytes of one.
-#[derive(Drop)]
+#[derive(Clone, Drop)]
 pub struct Line {
     bytes: [u8; LINE],
     len: usize,
@@ -87,6 +87,16 @@ impl Line {
         &self.bytes[..self.len]
     }
 
+    // In the front of the buffer; returns its length.
+    #[tactic(auto, using(std::proofs::lemmas::Slice::overwrites))]
+    pub fn copy_to(&self, out: &mut [u8; LINE]) -> usize
+        ensures { Puts self.now out.old result out.new }
+    {
+        let bytes = self.as_slice();
+        out[..bytes.len()].copy_from_slice(bytes);
+        bytes.len()
+    }
+
     // A text after the bytes that there are.
     #[tactic(auto, using(std::proofs::lemmas::Slice::overwrites))]
     fn put(&mut self, text: &[u8])
@@ -108,6 +118,27 @@ impl Line {
         text::spell(number, &mut self.bytes[self.len..end]);
         self.len = end;
     }
+}
+
+// Where a line of the scene says nothing. The line stands in the front of the buffer; returns its length, as the others do.
+pub fn bad_line(out: &mut [u8; LINE]) -> usize
+    ensures { Puts bad_line out.old result out.new }
+{
+    Line::bad().copy_to(out)
+}
+
+// A refused scene, by the row's number.
+pub fn refused_line(number: u64, out: &mut [u8; LINE]) -> usize
+    ensures { Puts (refused_line number) out.old result out.new }
+{
+    Line::refused(number).copy_to(out)
+}
+
+// A word of a table, by its table and index.
+pub fn word_line(table: u64, index: u64, word: u64, out: &mut [u8; LINE]) -> usize
+    ensures { Puts (word_line table index word) out.old result out.new }
+{
+    Line::word(table, index, word).copy_to(out)
 }
 
 // A number's decimal digits, at the end of the buffer; returns the index of the first.

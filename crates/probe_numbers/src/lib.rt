@@ -1,7 +1,7 @@
 // What the functions of the lower layers answer, as eight numbers: for the comparison with the Rust alone.
 #![tactic(auto)]
 
-ghost use Rattle.std.specs.Prelude.{◌≤◌, ◌≡◌};
+ghost use Rattle.std.specs.Prelude.{◌≡◌, take};
 ghost use Rattle.fields.specs.Numbers.{eight, low};
 
 pub mod frames;
@@ -11,13 +11,13 @@ pub mod regimes;
 pub mod registers;
 pub mod words;
 
-// The numbers given, and zeros up to eight.
+// The numbers given, and zeros up to eight; a ninth is cut.
 pub fn eight<const N: usize>(numbers: [u64; N]) -> [u64; 8]
-    requires { N ≤ 8 }
-    ensures { result ≡ eight numbers.entry }
+    ensures { result ≡ eight (take 8 numbers.entry) }
 {
+    let len = N.min(8);
     let mut all = [0; 8];
-    all[..N].copy_from_slice(&numbers);
+    all[..len].copy_from_slice(&numbers[..len]);
     all
 }
 

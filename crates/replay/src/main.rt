@@ -14,7 +14,7 @@ fn replay_line<R: Read, W: Write>(input: &mut R, output: &mut W) -> io::Result<b
     let Some(op) = replay_lines::read_number(input)? else {
         return Ok(false);
     };
-    let Some(x) = replay_lines::read_numbers(input)? else {
+    let Some(x) = replay_lines::read_array(input)? else {
         return Ok(false);
     };
     let answer = probe::answer((op & 0xFFFF_FFFF) as u32, &x);

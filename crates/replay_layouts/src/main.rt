@@ -11,7 +11,7 @@ fn main(rt: HostRuntime) -> io::Result<()> {
 
 // Whether there was a whole line.
 fn replay_line<R: Read, W: Write>(input: &mut R, output: &mut W) -> io::Result<bool> {
-    let Some(x) = replay_lines::read_numbers(input)? else {
+    let Some(x) = replay_lines::read_array(input)? else {
         return Ok(false);
     };
     let answer = refusal::words(validate::validate(layout_numbers::layout_of(&x)));

@@ -41,16 +41,22 @@ pub fn read_number<R: Read>(input: &mut R) -> io::Result<Option<u64>> {
     }
 }
 
-// As many as the array has, if all are there.
-pub fn read_numbers<R: Read, const N: usize>(input: &mut R) -> io::Result<Option<[u64; N]>> {
-    let mut numbers = [0; N];
-    for number in numbers.iter_mut() {
+// Whether all were there: the list holds those that were.
+pub fn read_numbers<R: Read>(input: &mut R, x: &mut [u64]) -> io::Result<bool> {
+    for number in x.iter_mut() {
         let Some(n) = read_number(input)? else {
-            return Ok(None);
+            return Ok(false);
         };
         *number = n;
     }
-    Ok(Some(numbers))
+    Ok(true)
+}
+
+// As many as the array has, if all are there.
+pub fn read_array<R: Read, const N: usize>(input: &mut R) -> io::Result<Option<[u64; N]>> {
+    let mut numbers = [0; N];
+    let all = read_numbers(input, &mut numbers)?;
+    Ok(all.then_some(numbers))
 }
 
 fn number(text: &[u8]) -> u64 {

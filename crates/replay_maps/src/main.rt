@@ -14,7 +14,7 @@ fn main(rt: HostRuntime) -> io::Result<()> {
 
 // Whether there was a whole line.
 fn replay_line<R: Read, W: Write>(input: &mut R, output: &mut W) -> io::Result<bool> {
-    let Some(numbers) = replay_lines::read_numbers(input)? else {
+    let Some(numbers) = replay_lines::read_array(input)? else {
         return Ok(false);
     };
     Call::of(numbers).replay(output)?;

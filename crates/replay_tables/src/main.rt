@@ -23,13 +23,13 @@ fn replay_line<R: Read, W: Write>(
     output: &mut W,
     arena: &mut [u64],
 ) -> io::Result<bool> {
-    let Some(x) = replay_lines::read_numbers(input)? else {
+    let Some(x) = replay_lines::read_array(input)? else {
         return Ok(false);
     };
     if x[0] == 0 {
         return Ok(store(arena, x[1] as usize, x[2] as usize, x[3]).is_some());
     }
-    let Some(numbers) = replay_lines::read_numbers(input)? else {
+    let Some(numbers) = replay_lines::read_array(input)? else {
         return Ok(false);
     };
     let Some(lent) = arena.get_mut(..x[3] as usize) else {

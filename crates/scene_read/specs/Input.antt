@@ -21,6 +21,10 @@ LeavesText known left s new =
     × Consumes known left text
     × ((line : List ℕ) × (taken_all 36 (reading s []) text ≡ reading new line))
 
+-- the same where the scene is dropped: the lines that have ended are those of some scene, so that none of them was bad
+abbrev pub LosesText : Option (List ℕ) → Option (List ℕ) → Scene → Type 0
+LosesText known left s = (new : Scene) × LeavesText known left s new
+
 -- what is printed of the text is written, by the bytes that the reader has, and those that the writer holds at entry and exit
 abbrev pub WritesText : (List ℕ → List ℕ) → Option (List ℕ) → Option (List ℕ) → Option (List ℕ) → Type 0
 WritesText printed known old new = (text : List ℕ) × IsTextOf known text × Appends old new (printed text)

@@ -4,7 +4,7 @@
 ghost use Rattle.std.specs.Prelude.{IfOk, OnErr};
 ghost use Rattle.scene.specs.Lent.{held, SameLists};
 ghost use Rattle.scene.specs.Scene.{scene, unset};
-ghost use Rattle.scene_read.specs.Input.{ReadsText, LeavesText};
+ghost use Rattle.scene_read.specs.Input.{ReadsText, LeavesText, LosesText};
 
 use layout::Layout;
 use scene::Scene;
@@ -23,7 +23,8 @@ pub struct ReadScene {
 
 // All that a reader has.
 pub fn read_all<R: Read>(input: &mut R) -> io::Result<ReadScene>
-    ensures { IfOk result (λ s. ReadsText (R.remaining input.old) unset s.read (scene s.numbers s.base s.sup)) }
+    ensures ok { IfOk result (λ s. ReadsText (R.remaining input.old) unset s.read (scene s.numbers s.base s.sup)) }
+    ensures err { OnErr result (LosesText (R.remaining input.old) (R.remaining input.new) unset) }
 {
     let mut numbers = [0; Layout::NUMBERS];
     let mut base = [0; Layout::ENTRIES];
