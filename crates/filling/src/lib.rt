@@ -41,9 +41,10 @@ pub fn place(
         parent: e.parent as u64,
     })?;
     match span {
-        Span::Base => put(base, e),
-        Span::Super => put(sup, e),
+        Span::Base => put(base, e)?,
+        Span::Super => put(sup, e)?,
     }
+    Ok(())
 }
 
 // One edge more, from where a filling stands: what a row has refused stays as it is.

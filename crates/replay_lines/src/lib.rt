@@ -79,9 +79,30 @@ pub fn print_line<W: Write>(output: &mut W, numbers: &[u64]) -> io::Result<()> {
         return Ok(());
     };
     for n in before {
-        write!(output, "{n:016x} ")?;
+        output.write_all(&spelled(*n, b' '))?;
     }
-    writeln!(output, "{last:016x}")
+    output.write_all(&spelled(*last, b'\n'))
+}
+
+// A number's digits and the byte after them, to be written at once: `write!` would write each piece by itself.
+fn spelled(n: u64, after: u8) -> [u8; 17] {
+    let mut text = [after; 17];
+    let mut rest = n;
+    for i in 0..16 {
+        text[15 - i] = glyph(rest % 16);
+        rest /= 16;
+    }
+    text
+}
+
+fn glyph(digit: u64) -> u8
+    requires { digit < 16 }
+{
+    if digit < 10 {
+        b'0' + digit as u8
+    } else {
+        b'a' + (digit - 10) as u8
+    }
 }
 
 // The bytes of a number, the lowest first.
