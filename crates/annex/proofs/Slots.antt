@@ -211,7 +211,7 @@ module _ (base sup : List ℕ) (exempt : Bool) where
           (subst (λ (rs : List Run). Written text old (page_of (resumed p.begun rs)) p.at p.page.now) (to_it n) wr))
 
   -- slots without a window, one after the other
-  empty_slots :
+  pub empty_slots :
       (ws : List Window) → Placed ws → (k s n : ℕ) → s + k ≤ entries →
       ((t : ℕ) → s ≤ t → t < s + k → All (λ w. has_slot t w ≡ false) ws) → slots_from (f ws) s n ≡ slots_from (f ws) (s + k) n
   empty_slots ws placed zero s n h none =

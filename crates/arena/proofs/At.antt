@@ -105,7 +105,7 @@ abbrev pub last_at : List Area → ℕ → ℕ → ℕ
 last_at xs j old = fold (λ w a. pick (area_has a j) (table_to a.table) w) old xs
 
 -- one more: it stands where it has the index
-named_next :
+pub named_next :
     (a : Area) (xs : List Area) (i old : ℕ) → table_of i ≡ 1 →
     stored (map area_run (a ∷ xs)) i old ≡ stored (map area_run xs) i (pick (area_has a (index_of i)) (table_to a.table) old)
 unfolding stored
@@ -159,7 +159,7 @@ module _ (l : Layout) (base sup : List ℕ) (i : ℕ) where
   at_run t r one_run e =
       of_table t e ∙ ap (λ rs. stored rs i 0) one_run ∙ overwrite_zero (word_at r i)
 
-  at_areas : table_of i ≡ 1 → target l base sup i ≡ stored (map area_run (areas_of l)) i 0
+  pub at_areas : table_of i ≡ 1 → target l base sup i ≡ stored (map area_run (areas_of l)) i 0
   unfolding upper_runs leaf_runs
   at_areas t = of_table 1 t
 
