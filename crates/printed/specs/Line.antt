@@ -16,6 +16,10 @@ decimal (suc k) n = pick (ltb n 10) [] (decimal k (n / 10)) ++ ((0x30 + n % 10) 
 unfoldable pub refused_line : ℕ → List ℕ
 refused_line number = ascii "REFUSED " ++ (decimal 20 number ++ (line_feed ∷ []))
 
+-- the longest line: REFUSED, a space, 20 digits and a line feed
+abbrev pub longest : ℕ
+longest = 29
+
 -- a buffer that is lent for a text, at entry and exit, and the length that is returned
 pub record Puts (text old : List ℕ) (n : ℕ) (new : List ℕ) : Type 0 where
   pub long : n ≡ length text

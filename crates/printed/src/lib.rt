@@ -2,7 +2,7 @@
 #![tactic(auto)]
 
 ghost use Rattle.std.specs.Prelude.{ℕ, ◌+◌, ◌%◌, ◌≤◌, ◌≡◌, List, [], ◌++◌, length, take, drop};
-ghost use Rattle.printed.specs.Line.{bad_line, refused_line, decimal, Puts};
+ghost use Rattle.printed.specs.Line.{bad_line, refused_line, decimal, longest, Puts};
 ghost use Rattle.printed.specs.Word.{word_line};
 ghost use Rattle.printed.specs.declared.TheConstants.{LINE};
 ghost use Rattle.text.specs.Digits.{digits};
@@ -81,7 +81,7 @@ impl Line {
     }
 
     pub fn as_slice(&self) -> &[u8]
-        ensures short { length result.now ≤ LINE }
+        ensures short { length result.now ≤ longest }
         ensures bytes { result.now ≡ self.now }
     {
         &self.bytes[..self.len]
